@@ -1,0 +1,20 @@
+use borrow.Author.Needs.{needs}
+use Rattle.laws.specs.All.{all}
+use Rattle.device.specs.Sound.{controllerFits}
+use Rattle.device.proofs.controller_fits.Statement.{statement}
+use Rattle.device.proofs.controller_fits.Tie as tie
+
+pub controller-fits-spec : {M : Type 1} → statement M
+unfolding controllerFits all
+controller-fits-spec =
+    tie.close
+    (tie.spec
+    (λ c κs. search needs)
+    (λ c κs. search needs)
+    (λ c κs. search needs)
+    (λ c κs. search needs)
+    (λ c κs. search needs)
+    (λ c κs. search needs)
+    (λ c κs. search needs)
+    (λ c κs. search needs)
+    (λ c. cc))

@@ -1,0 +1,13 @@
+use borrow.Author.Needs.{needs}
+use Rattle.device.specs.Sound.{apart}
+use Rattle.device.proofs.is_apart.Statement.{statement}
+use Rattle.device.proofs.is_apart.Tie as tie
+
+pub is-apart-spec : {M : Type 1} → statement M
+unfolding apart
+is-apart-spec =
+    tie.close
+    (tie.spec
+    (λ c κs. search needs)
+    (λ c κs. search needs)
+    (λ c. cc))

@@ -1,0 +1,19 @@
+use borrow.Author.Needs.{needs}
+use Rattle.laws.specs.All.{all}
+use Rattle.device.specs.Sound.{inside}
+use Rattle.device.proofs.is_inside.Statement.{statement}
+use Rattle.device.proofs.is_inside.Tie as tie
+
+pub is-inside-spec : {M : Type 1} → statement M
+unfolding inside all
+is-inside-spec =
+    tie.close
+    (tie.spec
+    (λ c κs. search needs)
+    (λ c κs. search needs)
+    (λ c κs. search needs)
+    (λ c κs. search needs)
+    (λ c κs. search needs)
+    (λ c κs. search needs)
+    (λ c κs. search needs)
+    (λ c. cc))

@@ -1,0 +1,20 @@
+use borrow.Author.Needs.{needs}
+use Rattle.laws.proofs.Rules.{cases}
+use Rattle.laws.specs.All.{all}
+use Rattle.device.specs.Sound.{operationFits}
+use Rattle.device.proofs.operation_fits.Statement.{statement}
+use Rattle.device.proofs.operation_fits.Tie as tie
+
+pub operation-fits-spec : {M : Type 1} → statement M
+unfolding operationFits all
+operation-fits-spec =
+    tie.close
+    (tie.spec
+    (λ c κs. search needs)
+    (λ c. search needs)
+    (λ c κs. (cc))
+    (λ c κs. (cc))
+    (λ c κs. search needs)
+    (λ c κs. search needs)
+    (λ c. let t = c .before .before .before .before .before .before in search (cases, c .both2 .ensures, c .before .both .ensures, c .before .before .state-fits .ensures, c .before .before .before .left-fits .ensures, ← t .times-fit .ensures))
+    (λ c. search (cases, ← c .before .times-fit .ensures)))

@@ -1,0 +1,20 @@
+use borrow.Author.Needs.{needs}
+use Rattle.laws.specs.All.{all}
+use Rattle.device.specs.Sound.{soundOf}
+use Rattle.device.proofs.sound.Statement.{statement}
+use Rattle.device.proofs.sound.Tie as tie
+
+pub sound-spec : {M : Type 1} → statement M
+unfolding soundOf all
+sound-spec =
+    tie.close
+    (tie.spec
+    (λ c κs. search needs)
+    (λ c κs. search needs)
+    (λ c κs. search needs)
+    (λ c κs. search needs)
+    (λ c κs. search needs)
+    (λ c κs. search needs)
+    (λ c κs. search needs)
+    (λ c κs. search needs)
+    (λ c. cc))

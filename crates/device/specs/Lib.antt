@@ -1,0 +1,3 @@
+pub mod Status
+pub mod Sound
+pub mod Power

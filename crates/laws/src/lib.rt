@@ -1,0 +1,1 @@
+// The proof kit that every room uses: no code, only laws.

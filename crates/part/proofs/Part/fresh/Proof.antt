@@ -1,0 +1,8 @@
+use borrow.Author.Needs.{needs}
+use Rattle.part.specs.Fresh.{freshOf}
+use Rattle.part.proofs.Part.fresh.Statement.{statement}
+use Rattle.part.proofs.Part.fresh.Tie as tie
+
+pub fresh-spec : {M : Type 1} → statement M
+unfolding freshOf
+fresh-spec = tie.close (tie.spec (λ c. search needs))

@@ -1,0 +1,30 @@
+-- The rule of the registers in closed form: the lock of each block at its address, the other three at theirs, and none
+-- at an address that no entry has. The sixteen locks are one computed test. Assumes nothing.
+use mathlib.Core.Path.{_≡_, _∙_, sym, refl}
+use mathlib.Core.List.{List, [], _∷_}
+use Prim.Native.Nat.{ℕ, suc, _<_, zero-le, suc-le-suc}
+use lib.ListN.{length, getD}
+use borrow.Author.Tests.{ne-eqb}
+use Rattle.part.specs.declared.Entry.{Entry}
+use Rattle.part.specs.declared.Register.the-variants.{Lock, Inputs, Maker, Device, Missing}
+use Rattle.part.specs.Registers.{lockAddress, registers, firstAt, registerAt}
+use Rattle.laws.proofs.Table.{at}
+
+pub lock-at : (b : ℕ) → b < 16 → registerAt (lockAddress b) ≡ Lock b
+unfolding registerAt
+lock-at b h = sym (at (λ (k : ℕ). registerAt (lockAddress k)) 16 b Missing h) ∙ at (λ (k : ℕ). Lock k) 16 b Missing h
+
+pub others-at : (registerAt 0xFBC0100 ≡ Inputs) × (registerAt 0xFBC0000 ≡ Maker) × (registerAt 0xFBC0001 ≡ Device)
+unfolding registerAt
+others-at = (refl, refl, refl)
+
+none-of : (es : List Entry) (a : ℕ) (d : Entry)
+    → ((k : ℕ) → k < length es → getD es k d .at ≡ a → ⊥)
+    → firstAt es a ≡ Missing
+none-of [] a d h = refl
+none-of (e ∷ es) a d h =
+    rw (ne-eqb (e .at) a (h 0 (suc-le-suc zero-le))) (none-of es a d (λ k l. h (suc k) (suc-le-suc l)))
+
+pub none-at : (a : ℕ) (d : Entry) → ((k : ℕ) → k < 19 → getD registers k d .at ≡ a → ⊥) → registerAt a ≡ Missing
+unfolding registerAt
+none-at a d h = none-of registers a d h

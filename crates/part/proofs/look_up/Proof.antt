@@ -1,0 +1,50 @@
+-- `part::look_up` meets its contract: the entries from place i on find what the whole table finds. Assumes nothing.
+use Prim.Native.Nat.{_≤_, _-_}
+use mathlib.Core.Path.{_≡_, _∙_, sym}
+use borrow.Author.Needs.{needs}
+use native.Mathlib.Omega.{arith}
+use lib.ListN.{drop}
+use Rattle.part.specs.Registers.{firstAt, registers, registerAt}
+use Rattle.part.proofs.Lookup.{hit, miss}
+use Rattle.part.proofs.look_up.Statement.{statement}
+use Rattle.part.proofs.look_up.Tie as tie
+
+abbrev Inv-loop : tie.InvT-loop
+Inv-loop address i₀ i = (i ≤ 19) × (firstAt (drop i registers) address ≡ registerAt address)
+
+abbrev μ-loop : tie.MeasureT-loop
+μ-loop address i₀ i = 19 - i
+
+loop-holds : tie.Need-loop-holds Inv-loop μ-loop
+unfolding registerAt
+loop-holds c = search needs
+
+returns : tie.Need-returns Inv-loop μ-loop
+returns c =
+    let w = c .before .before .before .before in
+    sym (hit registers (w .loop .i) (w .before .args .address) _ (search needs) (c .if1 .taken)) ∙ w .loop .inv .1
+
+loop-again : tie.Need-loop-again Inv-loop μ-loop
+loop-again c =
+    let w = c .before .before .before .before in (
+      omega arith,
+      sym (miss registers (w .loop .i) (w .before .args .address) _ (search needs) (c .if1 .left)) ∙ w .loop .inv .1,
+    )
+
+returns-2 : tie.Need-returns-2 Inv-loop μ-loop
+returns-2 c = let e : c .before .loop .i ≡ 19 = omega arith in rw e at (c .before .loop .inv .1)
+
+pub look-up-spec : {M : Type 1} → statement M
+look-up-spec =
+    tie.close
+    (tie.spec
+    Inv-loop
+    μ-loop
+    loop-holds
+    (λ c. search needs)
+    (λ c. search needs)
+    returns
+    (λ c. omega arith)
+    (λ c. omega arith)
+    loop-again
+    returns-2)

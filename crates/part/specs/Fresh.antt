@@ -1,0 +1,16 @@
+-- Document 01, "The part's fixed numbers belong to the part" and "Power up": the fixed numbers, and the device as it
+-- comes up. Assumes nothing.
+use Prim.Native.Nat.{ℕ}
+use lib.ListN.{replicate}
+use Rattle.units.specs.declared.Times.{Times}
+use Rattle.record.specs.declared.Controller.{Controller}
+use Rattle.record.specs.declared.Device.{Device}
+use Rattle.record.specs.Record.{controller, device, idle, absent}
+
+-- read array, no error bits, no setup, no operation: what reset leaves, with the marks that are given
+abbrev pub resting : ℕ → Controller
+resting marks = controller 0 0 0 marks absent absent
+
+-- every lock register at 01h, no frame, no operation, no marks
+unfoldable pub freshOf : ℕ → Times → Device
+freshOf straps ts = device straps (replicate 16 1) ts idle (resting 0)

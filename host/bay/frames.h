@@ -1,0 +1,59 @@
+/* Firmware Hub frames: laid down clock by clock, and recognised again on a bus that someone watches. */
+#ifndef BAY_FRAMES_H
+#define BAY_FRAMES_H
+
+#include <stdbool.h>
+#include <stddef.h>
+#include <stdint.h>
+
+/* The clocks of a frame, counted from 1:
+ *           read            write
+ *     1     start 1101b     start 1110b, frame line low
+ *     2     device select (straps)
+ *     3-9   address, highest nibble first
+ *     10    size
+ *     11-12 turnaround      data, low nibble first
+ *     13-14 wait            turnaround
+ *     15    sync            sync
+ *     16-17 data            turnaround
+ *     18-19 turnaround */
+enum {
+    FRAME_START_READ = 0xD,
+    FRAME_START_WRITE = 0xE,
+    FRAME_CLOCK_SELECT = 2,
+    FRAME_CLOCK_ADDRESS = 3,
+    FRAME_CLOCK_SIZE = 10,
+    FRAME_CLOCK_WRITTEN = 11,
+    FRAME_CLOCK_ACT = 12,
+    FRAME_CLOCK_SYNC = 15,
+    FRAME_CLOCK_READ = 16,
+    FRAME_READ_CLOCKS = 19,
+    FRAME_WRITE_CLOCKS = 17,
+    FRAME_MOST_CLOCKS = FRAME_READ_CLOCKS
+};
+
+struct frame {
+    bool write;
+    uint8_t select;
+    uint8_t size;
+    uint8_t byte;
+    uint32_t address;
+};
+
+/* Lays the frame over an idle sample, whose pins it keeps; gives its clocks. */
+size_t frame_lay(const struct frame *frame, uint16_t idle, uint16_t samples[FRAME_MOST_CLOCKS]);
+
+/* A frame that is being watched. clock: its clocks so far, 0 where there is no frame. */
+struct watched {
+    struct frame frame;
+    unsigned clock;
+    bool answered;
+};
+
+/* Whether a sample with a low frame line begins a frame. */
+bool watch_begin(struct watched *watched, uint16_t sample);
+
+/* Takes one further clock with the device's answer to it; says whether the frame is then at its end. */
+bool watch_clock(struct watched *watched, uint16_t sample, uint32_t answer);
+
+#endif

@@ -1,0 +1,120 @@
+/* The texts that --help prints. */
+#include "help.h"
+
+#define SETTINGS                                                                                       \
+    "  --straps N                    the four strap pins as a number (usually 0)\n"                    \
+    "  --times PROGRAM,SLICE,PAUSE   microseconds (usually 10,3906,30)\n"                              \
+    "  --sheet FILE                  straps and times from a bay sheet instead\n"
+
+#define STATUSES                                                                                       \
+    "The exit status is 0 when done, the number of the library's refusal (1 to 10),\n"                 \
+    "or 64 and above: 64 command line, 65 text file, 66 unreadable, 69 port, 70 fault\n"                \
+    "of the program, 71 system, 73 and 74 output. On an error no file is changed.\n"
+
+const char help_bay[] =
+    "bay: an M50FW080 flash part on the bench, clock by clock\n"
+    "\n"
+    "  bay demo                      the night that cost two boards, in a second\n"
+    "  bay run IMAGE STREAM          run a stream of samples on a copy of an image\n"
+    "  bay trace IMAGE STREAM        the same with every frame in words, or as a waveform\n"
+    "  bay rack FOLDER               twelve bays side by side under one harness\n"
+    "  bay serve --port N IMAGE      let flashrom at the part\n"
+    "  bay sheet read|write SHEET    bay sheets to words and back\n"
+    "  bay COMMAND --help            more about one of them\n"
+    "\n" STATUSES
+    "\n"
+    "Example:  bay demo\n";
+
+const char help_run[] =
+    "bay run IMAGE STREAM [options]: run a stream of samples on a copy of an image\n"
+    "\n"
+    "IMAGE is the part's 1,048,576 bytes. STREAM has two bytes for each sample, lower\n"
+    "first. Either may be - for the standard input. Prints the samples done, the\n"
+    "status register in words, and a map of spoiled (S) and changed (C) blocks.\n"
+    "\n" SETTINGS
+    "  --answers FILE                write the answer bytes, one for each sample\n"
+    "  --save FILE                   write the image as the run left it\n"
+    "\n"
+    "A FILE of - is the standard output; the report then goes to the standard error.\n"
+    "\n" STATUSES
+    "\n"
+    "Example:  bay run board.img night.stream --times 10,1,30 --save after.img\n";
+
+const char help_trace[] =
+    "bay trace IMAGE STREAM [options]: every frame of a stream in words\n"
+    "\n"
+    "One line for each frame (the clock that it began on, read or write, the address\n"
+    "or the register's name, the byte, what became of it), for each change of a pin,\n"
+    "and for each change of the status register that no write brought about.\n"
+    "Clocks are counted from 0.\n"
+    "\n" SETTINGS
+    "  --vcd FILE                    also write the run as a waveform for GTKWave or sigrok\n"
+    "\n"
+    "A FILE of - is the standard output; the words then go to the standard error.\n"
+    "\n" STATUSES
+    "\n"
+    "Example:  bay trace board.img night.stream --vcd night.vcd\n";
+
+const char help_demo[] =
+    "bay demo: the night that cost two boards\n"
+    "\n"
+    "Twelve bays erase a block each while the harness pulls write protect low for all\n"
+    "of them. The table shows what each block holds afterwards, and what the old model\n"
+    "would have left there. No files are read or written.\n"
+    "\n"
+    "Example:  bay demo\n";
+
+const char help_rack[] =
+    "bay rack FOLDER [options]: twelve bays side by side under one harness\n"
+    "\n"
+    "FOLDER has bay01.img and bay01.stream to bay12.img and bay12.stream, and may have\n"
+    "bay01.sheet to bay12.sheet with straps and times. A bay with neither image nor\n"
+    "stream is empty. What is wrong with one bay does not stop the others.\n"
+    "\n"
+    "The harness track is text. From the clock that a line names, the pins that it\n"
+    "names are so in all twelve streams, whatever the streams say:\n"
+    "\n"
+    "    at 0     voltage 1 wp high tbl high\n"
+    "    at 1200  wp low                      # clocks do not fall from line to line\n"
+    "\n"
+    "  --harness FILE                the track (usually FOLDER/harness.track, if there)\n"
+    "  --save FOLDER                 write bay01.img to bay12.img as the run left them\n"
+    "\n" STATUSES
+    "With several bays in trouble it is the lowest number.\n"
+    "\n"
+    "Example:  bay rack tonight --save tomorrow\n";
+
+const char help_serve[] =
+    "bay serve --port N IMAGE [options]: let flashrom at the part\n"
+    "\n"
+    "Speaks flashrom's serprog protocol (bus type FWH) on 127.0.0.1, to one client at a\n"
+    "time. The part stays powered from client to client. After each client, once the\n"
+    "part is ready, IMAGE is replaced if it has changed. SIGINT or SIGTERM ends the\n"
+    "server the same way.\n"
+    "\n"
+    "  --port N                      the port; 0 takes a free one and says which\n"
+    "  --wp low, --tbl low           hold write protect or top block lock low\n"
+    "  --voltage 0|1|2               below lockout, normal (usual), twelve volts\n"
+    "  --once                        end after one client\n"
+    "  --clients N                   end after so many clients (usually 1000)\n"
+    "  --idle SECONDS                end a client that is silent so long (usually 30)\n"
+    "  --seconds SECONDS             end the server after so long (usually 28800)\n"
+    "  --rest MICROSECONDS           the bus rests so long before each request, as it\n"
+    "                                does behind a slow line (usually 100)\n" SETTINGS
+    "\n" STATUSES
+    "\n"
+    "Example:  bay serve --port 4000 board.img\n"
+    "and then  flashrom -p serprog:ip=127.0.0.1:4000 -c M50FW080 -r read.img\n";
+
+const char help_sheet[] =
+    "bay sheet read SHEET: a bay sheet's thirteen bytes in words\n"
+    "bay sheet write SHEET [options]: a bay sheet from words\n"
+    "\n"
+    "  --straps N                    the four strap pins as a number (usually 0)\n"
+    "  --times PROGRAM,SLICE,PAUSE   microseconds (usually 10,3906,30)\n"
+    "  --words FILE                  all four as bay sheet read prints them instead\n"
+    "\n"
+    "SHEET and FILE may be - for the standard input or output.\n"
+    "\n" STATUSES
+    "\n"
+    "Example:  bay sheet write bay03.sheet --straps 3 --times 10,3906,30\n";

@@ -1,0 +1,82 @@
+/* bay: what a fitter runs at night. Everything about the part is asked of the proved library. */
+#include "commands.h"
+#include "files.h"
+#include "help.h"
+#include "trouble.h"
+
+#include <signal.h>
+#include <stdbool.h>
+#include <stdio.h>
+#include <string.h>
+
+static const struct command {
+    const char *name;
+    int (*carry_out)(int count, char **words);
+    const char *help;
+} commands[] = {
+    { "run", command_run, help_run },       { "trace", command_trace, help_trace }, { "demo", command_demo, help_demo },
+    { "rack", command_rack, help_rack },    { "serve", command_serve, help_serve }, { "sheet", command_sheet, help_sheet },
+};
+enum { COMMANDS = sizeof commands / sizeof commands[0] };
+
+static const struct command *find(const char *name)
+{
+    for (size_t i = 0; i < COMMANDS; i++) {
+        if (strcmp(commands[i].name, name) == 0) {
+            return &commands[i];
+        }
+    }
+    return NULL;
+}
+
+static bool asks_help(const char *word)
+{
+    return strcmp(word, "--help") == 0 || strcmp(word, "-h") == 0;
+}
+
+static bool any_asks_help(int count, char **words)
+{
+    for (int i = 0; i < count && strcmp(words[i], "--") != 0; i++) {
+        if (asks_help(words[i])) {
+            return true;
+        }
+    }
+    return false;
+}
+
+static int print(const char *words)
+{
+    return deliver(&(struct output){ .at = words, .length = strlen(words), .report = true }, 1);
+}
+
+static int no_command(const char *found)
+{
+    return trouble(TROUBLE_USAGE, "there is no such command\n"
+                                  "  expected  run, trace, demo, rack, serve or sheet\n"
+                                  "  found     %s\n"
+                                  "  do        see bay --help",
+                   found);
+}
+
+int main(int count, char **words)
+{
+    /* a file that may not grow further is then an error of the write, which is told and cleaned up after */
+    if (signal(SIGXFSZ, SIG_IGN) == SIG_ERR || count < 2) {
+        return no_command("nothing");
+    }
+    bool help_word = strcmp(words[1], "help") == 0;
+    if (asks_help(words[1]) || (help_word && count < 3)) {
+        return print(help_bay);
+    }
+    const struct command *command = find(help_word ? words[2] : words[1]);
+    if (command == NULL) {
+        return no_command(help_word ? words[2] : words[1]);
+    }
+    if (help_word || any_asks_help(count - 2, words + 2)) {
+        return print(command->help);
+    }
+    char speaker[32];
+    int length = snprintf(speaker, sizeof speaker, "bay %s", command->name);
+    trouble_speaker(length > 0 ? speaker : "bay");
+    return command->carry_out(count - 2, words + 2);
+}

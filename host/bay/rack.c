@@ -1,0 +1,331 @@
+/* bay rack: twelve bays side by side under one harness, each in a process of its own, so that none can stop another. */
+#include "commands.h"
+#include "files.h"
+#include "load.h"
+#include "options.h"
+#include "text.h"
+#include "track.h"
+#include "trouble.h"
+#include "words.h"
+
+#include <errno.h>
+#include <limits.h>
+#include <poll.h>
+#include <signal.h>
+#include <stdio.h>
+#include <string.h>
+#include <sys/stat.h>
+#include <sys/types.h>
+#include <sys/wait.h>
+#include <unistd.h>
+
+enum { BAYS = 12, SECONDS_FOR_A_BAY = 120 };
+
+/* What a bay's process hands back through its pipe: small enough to arrive in one piece. */
+struct outcome {
+    int status;
+    bool empty;
+    struct pod_report report;
+    uint32_t changed;
+    char words[1024];
+};
+_Static_assert(sizeof(struct outcome) <= _POSIX_PIPE_BUF * 4, "an outcome must fit a pipe");
+
+struct rack {
+    const char *folder;
+    const char *save;
+    struct track track;
+};
+
+struct bay {
+    pid_t process;
+    int pipe;
+    bool done;
+    struct outcome outcome;
+};
+
+/* The signal that is to end the rack, 0 while there is none. */
+static volatile sig_atomic_t ended_by;
+
+static void on_signal(int number)
+{
+    ended_by = number;
+}
+
+struct name {
+    char text[PATH_MAX];
+};
+
+static struct name file_name(const char *folder, unsigned bay, const char *ending)
+{
+    struct name name;
+    int length = snprintf(name.text, sizeof name.text, "%s/bay%02u.%s", folder, bay, ending);
+    if (length < 0 || (size_t)length >= sizeof name.text) {
+        name.text[0] = '\0';
+    }
+    return name;
+}
+
+static int save_bay(const struct rack *rack, unsigned number, const struct load *load)
+{
+    if (rack->save == NULL) {
+        return 0;
+    }
+    struct name name = file_name(rack->save, number, "img");
+    return deliver(&(struct output){ .path = name.text, .at = load->after, .length = load->before.length }, 1);
+}
+
+/* One bay, from its files to its outcome. */
+static void run_bay(const struct rack *rack, unsigned number, struct outcome *out)
+{
+    struct name image = file_name(rack->folder, number, "img");
+    struct name stream = file_name(rack->folder, number, "stream");
+    struct name sheet = file_name(rack->folder, number, "sheet");
+    struct load load = { .image = image.text, .stream = stream.text };
+    struct settings_options from = { .sheet = file_exists(sheet.text) ? sheet.text : NULL };
+    out->empty = !file_exists(image.text) && !file_exists(stream.text);
+    if (out->empty) {
+        return;
+    }
+    out->status = load_begin(&load, &from);
+    if (out->status == 0) {
+        track_lay(&rack->track, load.samples.at, load.samples.length / 2);
+        out->status = load_run(&load, &out->report);
+    }
+    if (out->status == 0) {
+        out->changed = blocks_changed(load.before.at, load.after);
+        out->status = save_bay(rack, number, &load);
+    }
+    load_free(&load);
+}
+
+/* The life of a bay's process. */
+static _Noreturn void bay_process(const struct rack *rack, unsigned number, int to)
+{
+    static struct outcome outcome;
+    char speaker[32];
+    int length = snprintf(speaker, sizeof speaker, "bay rack: bay %u", number);
+    trouble_speaker(length > 0 ? speaker : "bay rack");
+    trouble_into(outcome.words, sizeof outcome.words);
+    (void)signal(SIGINT, SIG_DFL);
+    (void)signal(SIGTERM, SIG_DFL);
+    (void)signal(SIGHUP, SIG_DFL);
+    (void)alarm(SECONDS_FOR_A_BAY);
+    run_bay(rack, number, &outcome);
+    _exit(write(to, &outcome, sizeof outcome) == (ssize_t)sizeof outcome ? 0 : 1);
+}
+
+static int no_process(void)
+{
+    return trouble(TROUBLE_SYSTEM, "a bay could not be started\n"
+                                   "  expected  room for twelve processes\n"
+                                   "  found     %s\n"
+                                   "  do        end other programs and try again",
+                   strerror(errno));
+}
+
+static int start_bay(const struct rack *rack, unsigned number, struct bay *bay)
+{
+    int ends[2];
+    if (pipe(ends) != 0) {
+        return no_process();
+    }
+    bay->process = fork();
+    if (bay->process == 0) {
+        (void)close(ends[0]);
+        bay_process(rack, number, ends[1]);
+    }
+    (void)close(ends[1]);
+    bay->pipe = ends[0];
+    return bay->process < 0 ? no_process() : 0;
+}
+
+/* Takes what the bay's process left and sees it off. */
+static void collect(struct bay *bay, unsigned number)
+{
+    ssize_t got = read(bay->pipe, &bay->outcome, sizeof bay->outcome);
+    int how = 0;
+    (void)close(bay->pipe);
+    (void)waitpid(bay->process, &how, 0);
+    bay->done = true;
+    if (got == (ssize_t)sizeof bay->outcome) {
+        return;
+    }
+    memset(&bay->outcome, 0, sizeof bay->outcome);
+    bay->outcome.status = TROUBLE_SOFTWARE;
+    int length = snprintf(bay->outcome.words, sizeof bay->outcome.words,
+                          "bay rack: bay %u ended before it was done\n"
+                          "  expected  an outcome within %d seconds\n"
+                          "  found     signal %d\n"
+                          "  do        look at this bay's files; the other bays are not touched by it\n",
+                          number, SECONDS_FOR_A_BAY, WIFSIGNALED(how) ? WTERMSIG(how) : 0);
+    if (length < 0) {
+        bay->outcome.words[0] = '\0';
+    }
+}
+
+/* The progress line: on a terminal it is written over and over, elsewhere each bay has a line. */
+static void tell_progress(unsigned number, unsigned done, bool terminal)
+{
+    char line[64];
+    int length = terminal ? snprintf(line, sizeof line, "\r%u of %d bays done", done, BAYS)
+                          : snprintf(line, sizeof line, "bay %u done, %u of %d\n", number, done, BAYS);
+    if (length > 0 && write(STDERR_FILENO, line, (size_t)length) < 0) {
+        return;
+    }
+    if (terminal && done == BAYS && write(STDERR_FILENO, "\n", 1) < 0) {
+        return;
+    }
+}
+
+/* Waits until every bay has come home, or a signal says to end. */
+static void wait_for_bays(struct bay *bays)
+{
+    bool terminal = isatty(STDERR_FILENO) == 1;
+    unsigned done = 0;
+    while (done < BAYS && ended_by == 0) {
+        struct pollfd ready[BAYS];
+        for (unsigned i = 0; i < BAYS; i++) {
+            ready[i] = (struct pollfd){ .fd = bays[i].done ? -1 : bays[i].pipe, .events = POLLIN };
+        }
+        if (poll(ready, BAYS, -1) < 0) {
+            continue; /* a signal, which ended_by tells */
+        }
+        for (unsigned i = 0; i < BAYS; i++) {
+            if (!bays[i].done && ready[i].revents != 0) {
+                collect(&bays[i], i + 1);
+                tell_progress(i + 1, ++done, terminal);
+            }
+        }
+    }
+}
+
+/* Ends those bays that are still under way; each leaves its files whole. */
+static void end_bays(struct bay *bays)
+{
+    for (unsigned i = 0; i < BAYS; i++) {
+        if (!bays[i].done && bays[i].process > 0) {
+            (void)kill(bays[i].process, SIGTERM);
+            collect(&bays[i], i + 1);
+        }
+    }
+}
+
+static void tell_row(struct text *text, unsigned number, const struct outcome *outcome)
+{
+    if (outcome->empty) {
+        text_add(text, "%3u  empty\n", number);
+    } else if (outcome->status != 0) {
+        text_add(text, "%3u  %s %d\n", number, outcome->status < TROUBLE_USAGE ? "refusal" : "trouble", outcome->status);
+    } else {
+        text_add(text, "%3u  done     %7s  %-36s  %-8s", number, counted(outcome->report.samples).text,
+                 brief_status(outcome->report.status).text, brief_blocks(outcome->report.marks).text);
+        text_add(text, "  %s\n", brief_blocks(outcome->changed).text);
+    }
+}
+
+/* The table, and the lowest status other than 0, which a refusal always is before other trouble. */
+static int tell_rack(struct text *text, const struct bay *bays)
+{
+    int lowest = 0;
+    unsigned done = 0;
+    unsigned empty = 0;
+    text_add(text, "bay  outcome  samples  status                                spoiled   changed\n");
+    for (unsigned i = 0; i < BAYS; i++) {
+        const struct outcome *outcome = &bays[i].outcome;
+        tell_row(text, i + 1, outcome);
+        empty += outcome->empty ? 1U : 0U;
+        done += !outcome->empty && outcome->status == 0 ? 1U : 0U;
+        if (outcome->status != 0 && (lowest == 0 || outcome->status < lowest)) {
+            lowest = outcome->status;
+        }
+    }
+    text_add(text, "%u done, %u not, %u empty\n", done, BAYS - done - empty, empty);
+    return lowest;
+}
+
+static void tell_troubles(const struct bay *bays)
+{
+    for (unsigned i = 0; i < BAYS; i++) {
+        const char *words = bays[i].outcome.words;
+        if (bays[i].outcome.status != 0 && write(STDERR_FILENO, words, strlen(words)) < 0) {
+            return;
+        }
+    }
+}
+
+static int check_folder(const char *path)
+{
+    struct stat about;
+    if (stat(path, &about) == 0 && S_ISDIR(about.st_mode)) {
+        return 0;
+    }
+    return trouble(TROUBLE_NO_INPUT, "%s is no folder\n"
+                                     "  expected  a folder that is there\n"
+                                     "  found     %s\n"
+                                     "  do        make it, or name another",
+                   path, errno == 0 ? "a file" : strerror(errno));
+}
+
+static int run_rack(const struct rack *rack)
+{
+    static struct bay bays[BAYS];
+    struct sigaction act;
+    memset(&act, 0, sizeof act);
+    act.sa_handler = on_signal;
+    (void)sigemptyset(&act.sa_mask);
+    (void)sigaction(SIGINT, &act, NULL);
+    (void)sigaction(SIGTERM, &act, NULL);
+    (void)sigaction(SIGHUP, &act, NULL);
+    int status = 0;
+    for (unsigned i = 0; i < BAYS && status == 0; i++) {
+        bays[i].pipe = -1;
+        status = start_bay(rack, i + 1, &bays[i]);
+    }
+    if (status == 0) {
+        wait_for_bays(bays);
+    }
+    end_bays(bays);
+    if (ended_by != 0) {
+        (void)signal(ended_by, SIG_DFL);
+        (void)raise(ended_by);
+    }
+    if (status != 0) {
+        return status;
+    }
+    struct text text = { NULL, 0, 0 };
+    tell_troubles(bays);
+    status = tell_rack(&text, bays);
+    int told = deliver(&(struct output){ .at = text.bytes, .length = text.length, .report = true }, 1);
+    text_free(&text);
+    return status != 0 ? status : told;
+}
+
+int command_rack(int count, char **words)
+{
+    struct rack rack = { .folder = NULL };
+    const char *harness = NULL;
+    const struct option options[] = { { "--harness", &harness, NULL }, { "--save", &rack.save, NULL } };
+    const struct place places[] = { { "FOLDER", &rack.folder } };
+    const struct line line = { options, 2, places, 1 };
+    int status = options_take(&line, count, words);
+    if (status == 0) {
+        status = check_folder(rack.folder);
+    }
+    if (status == 0 && rack.save != NULL) {
+        status = check_folder(rack.save);
+    }
+    if (status == 0) {
+        char usual[PATH_MAX];
+        int length = snprintf(usual, sizeof usual, "%s/harness.track", rack.folder);
+        if (harness == NULL && length > 0 && (size_t)length < sizeof usual && file_exists(usual)) {
+            harness = usual;
+        }
+        status = harness == NULL ? 0 : track_read(harness, &rack.track);
+    }
+    if (status == 0) {
+        status = run_rack(&rack);
+    }
+    track_free(&rack.track);
+    return status;
+}

@@ -1,0 +1,349 @@
+/* bay serve: a pod as a serprog programmer on the loopback address, for flashrom and whatever drives it. */
+#include "bench.h"
+#include "commands.h"
+#include "files.h"
+#include "link.h"
+#include "options.h"
+#include "sample.h"
+#include "serprog.h"
+#include "text.h"
+#include "trouble.h"
+#include "words.h"
+
+#include <arpa/inet.h>
+#include <errno.h>
+#include <fcntl.h>
+#include <netinet/in.h>
+#include <netinet/tcp.h>
+#include <signal.h>
+#include <stdarg.h>
+#include <stdio.h>
+#include <stdlib.h>
+#include <string.h>
+#include <sys/socket.h>
+#include <unistd.h>
+
+enum {
+    USUAL_CLIENTS = 1000,
+    MOST_CLIENTS = 1000000,
+    USUAL_IDLE = 30,
+    USUAL_SECONDS = 8 * 3600, /* a shift */
+    MOST_SECONDS = 7 * 24 * 3600,
+    USUAL_REST = 100,
+    MOST_REST = 1000000
+};
+
+/* The server as it was asked for. saved: the image as it stands in the file. */
+struct server {
+    const char *image;
+    struct settings settings;
+    uint32_t port;
+    uint32_t clients;
+    uint32_t idle;
+    uint32_t seconds;
+    uint32_t rest;
+    struct bench bench;
+    uint8_t *saved;
+    int listener;
+    int stop;
+};
+
+/* A signal writes here, so that every wait of the server sees it. */
+static int stop_pipe[2] = { -1, -1 };
+
+static void on_signal(int number)
+{
+    int kept = errno;
+    char byte = (char)number;
+    if (write(stop_pipe[1], &byte, 1) < 0) {
+        /* the pipe is full of earlier ones, which do as well */
+    }
+    errno = kept;
+}
+
+static int no_server(const char *what, int error)
+{
+    return trouble(TROUBLE_UNAVAILABLE, "the server cannot %s\n"
+                                        "  expected  a port of this machine that is free and may be used\n"
+                                        "  found     %s\n"
+                                        "  do        choose another --port, or end the program that has it",
+                   what, strerror(error));
+}
+
+/* SIGINT, SIGTERM and SIGHUP end the server after it has saved; a client that is gone is no signal. */
+static int catch_signals(void)
+{
+    struct sigaction act;
+    memset(&act, 0, sizeof act);
+    act.sa_handler = on_signal;
+    (void)sigemptyset(&act.sa_mask);
+    if (pipe(stop_pipe) != 0 || fcntl(stop_pipe[1], F_SETFL, O_NONBLOCK) != 0 || sigaction(SIGINT, &act, NULL) != 0 ||
+        sigaction(SIGTERM, &act, NULL) != 0 || sigaction(SIGHUP, &act, NULL) != 0 ||
+        signal(SIGPIPE, SIG_IGN) == SIG_ERR) {
+        return no_server("listen for signals", errno);
+    }
+    return 0;
+}
+
+static int open_listener(struct server *server)
+{
+    struct sockaddr_in address = { .sin_family = AF_INET, .sin_port = htons((uint16_t)server->port) };
+    socklen_t length = sizeof address;
+    int yes = 1;
+    address.sin_addr.s_addr = htonl(INADDR_LOOPBACK);
+    server->listener = socket(AF_INET, SOCK_STREAM, 0);
+    if (server->listener < 0) {
+        return no_server("open a socket", errno);
+    }
+    if (setsockopt(server->listener, SOL_SOCKET, SO_REUSEADDR, &yes, sizeof yes) != 0 ||
+        fcntl(server->listener, F_SETFL, O_NONBLOCK) != 0 ||
+        bind(server->listener, (const struct sockaddr *)&address, sizeof address) != 0 ||
+        listen(server->listener, 1) != 0 ||
+        getsockname(server->listener, (struct sockaddr *)&address, &length) != 0) {
+        return no_server("take the port", errno);
+    }
+    server->port = ntohs(address.sin_port);
+    return 0;
+}
+
+/* One line on the standard output, at once. A reader that is gone does not stop the server. */
+static void __attribute__((format(printf, 1, 2))) say(const char *form, ...)
+{
+    char line[512];
+    va_list rest;
+    va_start(rest, form);
+    int length = vsnprintf(line, sizeof line, form, rest);
+    va_end(rest);
+    if (length > 0 && write(STDOUT_FILENO, line, strlen(line)) < 0) {
+        return;
+    }
+}
+
+/* Brings the image to its file, if it has changed since. */
+static int save(struct server *server)
+{
+    struct bench *bench = &server->bench;
+    uint32_t changed = blocks_changed(server->saved, bench->image);
+    if (changed == 0) {
+        return 0;
+    }
+    int status = deliver(&(struct output){ .path = server->image, .at = bench->image, .length = bench->image_length }, 1);
+    if (status == 0) {
+        memcpy(server->saved, bench->image, bench->image_length);
+        say("saved %s; changed blocks: %s\n", server->image, brief_blocks(changed).text);
+    }
+    return status;
+}
+
+/* One client, from its first byte to its last. */
+static const char *serve_client(struct server *server, int client, uint32_t number, int64_t until)
+{
+    static struct link link;
+    static struct serprog serprog;
+    int yes = 1;
+    memset(&link, 0, sizeof link);
+    link.client = client;
+    link.stop = server->stop;
+    link.idle = (int64_t)server->idle * 1000;
+    link.until = until;
+    serprog.link = &link;
+    serprog.bench = &server->bench;
+    serprog.rest = (uint64_t)server->rest * CLOCKS_IN_MICROSECOND;
+    if (fcntl(client, F_SETFL, O_NONBLOCK) != 0 || setsockopt(client, IPPROTO_TCP, TCP_NODELAY, &yes, sizeof yes) != 0) {
+        link.why = "the line broke";
+    } else {
+        say("client %u begins\n", (unsigned)number);
+        serprog_serve(&serprog);
+    }
+    (void)close(client);
+    bench_settle(&server->bench);
+    const char *why = link.why != NULL ? link.why : "the library refused";
+    say("client %u ends after %s requests: %s; status %s\n", (unsigned)number, counted(serprog.requests).text, why,
+        brief_status(pod_status(server->bench.device)).text);
+    return why;
+}
+
+/* Clients one after another until their number or the time is over, or a signal comes. */
+static int serve_clients(struct server *server)
+{
+    int64_t until = milliseconds() + (int64_t)server->seconds * 1000;
+    const char *why = NULL;
+    for (uint32_t number = 1; number <= server->clients && why == NULL && server->bench.refusal == 0;) {
+        why = wait_for(&(struct wait){ .file = server->listener, .stop = server->stop, .until = until });
+        int client = why == NULL ? accept(server->listener, NULL, NULL) : -1;
+        if (client < 0) {
+            continue; /* a client that left before it was let in counts for nothing */
+        }
+        const char *end = serve_client(server, client, number++, until);
+        why = end == link_ended || end == link_over ? end : NULL;
+        (void)save(server); /* if it cannot be saved now, it is tried again at the end */
+    }
+    say("the server ends: %s\n", why != NULL ? why : "the last client is served");
+    if (server->bench.refusal != 0) {
+        return refused(server->bench.refusal, &(struct facts){ .image = server->image, .stream = "the client" });
+    }
+    return save(server);
+}
+
+static int power_up(struct server *server, const struct bytes *image)
+{
+    struct bench *bench = &server->bench;
+    uint8_t idle[2];
+    bench->image = image->at;
+    bench->image_length = image->length;
+    bench_power_up(bench, &server->settings);
+    if (bench->refusal == 0) {
+        server->saved = must_have(image->length);
+        memcpy(server->saved, image->at, image->length);
+        return 0;
+    }
+    sample_put(idle, 0, bench->idle);
+    return refused(bench->refusal, &(struct facts){ .image = server->image,
+                                                    .image_length = image->length,
+                                                    .image_more = image->more,
+                                                    .stream = "--voltage",
+                                                    .samples = idle,
+                                                    .stream_length = sizeof idle,
+                                                    .settings = server->settings });
+}
+
+static int start(struct server *server)
+{
+    struct bytes image;
+    int status = file_read(server->image, POD_IMAGE_BYTES, &image);
+    if (status == 0) {
+        status = power_up(server, &image);
+    }
+    if (status == 0) {
+        status = catch_signals();
+    }
+    if (status == 0) {
+        server->stop = stop_pipe[0];
+        status = open_listener(server);
+    }
+    if (status == 0) {
+        say("listening on 127.0.0.1:%u for %s\n", (unsigned)server->port, server->image);
+        status = serve_clients(server);
+    }
+    bytes_free(&image);
+    free(server->saved);
+    return status;
+}
+
+/* The words of the command line, null where they are not given. */
+struct asked {
+    const char *port;
+    const char *wp;
+    const char *tbl;
+    const char *voltage;
+    const char *clients;
+    const char *idle;
+    const char *seconds;
+    const char *rest;
+    bool once;
+};
+
+static int take_pin(const char *option, const char *word, unsigned pin, uint16_t *idle)
+{
+    if (word == NULL) {
+        return 0;
+    }
+    if (strcmp(word, "low") != 0 && strcmp(word, "high") != 0) {
+        return trouble(TROUBLE_USAGE, "%s is neither high nor low\n"
+                                      "  expected  high or low\n"
+                                      "  found     %s\n"
+                                      "  do        give it as in %s low",
+                       option, word, option);
+    }
+    *idle = sample_set(*idle, pin, word[0] == 'h' ? pin : 0);
+    return 0;
+}
+
+static int take_pins(const struct asked *asked, uint16_t *idle)
+{
+    uint32_t voltage = sample_voltage(*idle);
+    int status = take_pin("--wp", asked->wp, SAMPLE_WP, idle);
+    if (status == 0) {
+        status = take_pin("--tbl", asked->tbl, SAMPLE_TBL, idle);
+    }
+    if (status == 0 && asked->voltage != NULL) {
+        status = number_within("--voltage", asked->voltage, (struct bounds){ 0, 3 }, &voltage);
+    }
+    *idle = sample_set(*idle, SAMPLE_VOLTAGE, voltage << SAMPLE_VOLTAGE_AT);
+    return status;
+}
+
+static int take_bounds(const struct asked *asked, struct server *server)
+{
+    const struct {
+        const char *option;
+        const char *word;
+        struct bounds bounds;
+        uint32_t *to;
+    } numbers[] = {
+        { "--port", asked->port, { 0, 65535 }, &server->port },
+        { "--clients", asked->clients, { 1, MOST_CLIENTS }, &server->clients },
+        { "--idle", asked->idle, { 1, MOST_SECONDS }, &server->idle },
+        { "--seconds", asked->seconds, { 1, MOST_SECONDS }, &server->seconds },
+        { "--rest", asked->rest, { 0, MOST_REST }, &server->rest },
+    };
+    int status = 0;
+    for (size_t i = 0; i < sizeof numbers / sizeof numbers[0] && status == 0; i++) {
+        if (numbers[i].word != NULL) {
+            status = number_within(numbers[i].option, numbers[i].word, numbers[i].bounds, numbers[i].to);
+        }
+    }
+    if (asked->once) {
+        server->clients = 1;
+    }
+    return status;
+}
+
+static int check(const struct asked *asked, const struct server *server)
+{
+    if (asked->port == NULL) {
+        return trouble(TROUBLE_USAGE, "--port is missing\n"
+                                      "  expected  the port to listen on; 0 takes any that is free\n"
+                                      "  found     none\n"
+                                      "  do        give it as in --port 4000");
+    }
+    if (is_standard(server->image)) {
+        return trouble(TROUBLE_USAGE, "the image is -\n"
+                                      "  expected  a file, which is replaced when the image has changed\n"
+                                      "  found     the standard input\n"
+                                      "  do        name a file");
+    }
+    return 0;
+}
+
+int command_serve(int count, char **words)
+{
+    struct server server = { .clients = USUAL_CLIENTS, .idle = USUAL_IDLE, .seconds = USUAL_SECONDS, .rest = USUAL_REST };
+    struct settings_options from = { NULL, NULL, NULL };
+    struct asked asked = { .once = false };
+    const struct option options[] = {
+        { "--port", &asked.port, NULL },       { "--wp", &asked.wp, NULL },
+        { "--tbl", &asked.tbl, NULL },         { "--voltage", &asked.voltage, NULL },
+        { "--clients", &asked.clients, NULL }, { "--idle", &asked.idle, NULL },
+        { "--seconds", &asked.seconds, NULL }, { "--rest", &asked.rest, NULL },
+        { "--straps", &from.straps, NULL },    { "--times", &from.times, NULL },
+        { "--sheet", &from.sheet, NULL },      { "--once", NULL, &asked.once },
+    };
+    const struct place places[] = { { "IMAGE", &server.image } };
+    const struct line line = { options, sizeof options / sizeof options[0], places, 1 };
+    server.bench.idle = SAMPLE_IDLE;
+    int status = options_take(&line, count, words);
+    if (status == 0) {
+        status = check(&asked, &server);
+    }
+    if (status == 0) {
+        status = take_pins(&asked, &server.bench.idle);
+    }
+    if (status == 0) {
+        status = take_bounds(&asked, &server);
+    }
+    if (status == 0) {
+        status = settings_take(&from, &server.settings);
+    }
+    return status == 0 ? start(&server) : status;
+}

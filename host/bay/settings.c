@@ -1,0 +1,106 @@
+/* Straps and times from options or from a bay sheet. */
+#include "settings.h"
+
+#include "files.h"
+#include "pod.h"
+#include "text.h"
+#include "trouble.h"
+#include "words.h"
+
+#include <string.h>
+
+enum { SHEET_MOST = 4096 };
+
+static const struct settings usual = { 0, 10, 3906, 30 };
+
+/* The digits at the front of the words, and where they end. */
+static const char *digits(const char *words, uint32_t *out)
+{
+    uint64_t number = 0;
+    const char *at = words;
+    while (*at >= '0' && *at <= '9') {
+        number = number * 10 + (uint64_t)(*at - '0');
+        if (number > UINT32_MAX) {
+            number = UINT32_MAX;
+        }
+        at++;
+    }
+    *out = (uint32_t)number;
+    return at == words ? NULL : at;
+}
+
+bool number_take(const char *words, uint32_t *out)
+{
+    const char *end = digits(words, out);
+    return end != NULL && *end == '\0';
+}
+
+int number_within(const char *option, const char *words, struct bounds bounds, uint32_t *out)
+{
+    if (number_take(words, out) && *out >= bounds.least && *out <= bounds.most) {
+        return 0;
+    }
+    return trouble(TROUBLE_USAGE, "%s is not a number that fits\n"
+                                  "  expected  a whole number from %s to %s\n"
+                                  "  found     %s\n"
+                                  "  do        give such a number",
+                   option, counted(bounds.least).text, counted(bounds.most).text, words);
+}
+
+static bool times_take(const char *words, struct settings *out)
+{
+    uint32_t *const three[] = { &out->program, &out->slice, &out->pause };
+    for (size_t i = 0; i < 3; i++) {
+        words = digits(words, three[i]);
+        if (words == NULL || *words != (i < 2 ? ',' : '\0')) {
+            return false;
+        }
+        words++;
+    }
+    return true;
+}
+
+int settings_from_sheet(const char *path, struct settings *out)
+{
+    struct bytes sheet;
+    int status = file_read(path, SHEET_MOST, &sheet);
+    if (status != 0) {
+        return status;
+    }
+    struct pod_sheet read = pod_sheet_read(sheet.at, sheet.length);
+    if (read.number != 0) {
+        status = refused(read.number, &(struct facts){ .sheet = path, .sheet_length = sheet.length });
+    }
+    *out = (struct settings){ read.straps, read.program, read.slice, read.pause };
+    bytes_free(&sheet);
+    return status;
+}
+
+int settings_take(const struct settings_options *options, struct settings *out)
+{
+    *out = usual;
+    if (options->sheet != NULL) {
+        if (options->straps != NULL || options->times != NULL) {
+            return trouble(TROUBLE_USAGE, "--sheet does not go with --straps or --times\n"
+                                          "  expected  straps and times from one place\n"
+                                          "  found     a sheet and an option beside it\n"
+                                          "  do        leave one of them out");
+        }
+        return settings_from_sheet(options->sheet, out);
+    }
+    if (options->straps != NULL && !number_take(options->straps, &out->straps)) {
+        return trouble(TROUBLE_USAGE, "--straps is not a number\n"
+                                      "  expected  a whole number, 0 to 15\n"
+                                      "  found     %s\n"
+                                      "  do        give it as in --straps 3",
+                       options->straps);
+    }
+    if (options->times != NULL && !times_take(options->times, out)) {
+        return trouble(TROUBLE_USAGE, "--times is not three numbers\n"
+                                      "  expected  program, slice and pause in microseconds, with commas and no blanks\n"
+                                      "  found     %s\n"
+                                      "  do        give them as in --times 10,3906,30",
+                       options->times);
+    }
+    return 0;
+}

@@ -1,0 +1,173 @@
+/* Reading a harness track and laying it over a stream. */
+#include "track.h"
+
+#include "files.h"
+#include "sample.h"
+#include "settings.h"
+#include "text.h"
+#include "trouble.h"
+
+#include <stdbool.h>
+#include <stdlib.h>
+#include <string.h>
+
+enum { TRACK_MOST = 1 << 20 };
+
+/* The words of one line, ended by zero bytes in place of blanks. */
+struct words {
+    char *at;
+    char *end;
+};
+
+static char *next_word(struct words *words)
+{
+    while (words->at < words->end && strchr(" \t\r", *words->at) != NULL) {
+        words->at++;
+    }
+    if (words->at >= words->end || *words->at == '#' || *words->at == '\0') {
+        return NULL;
+    }
+    char *word = words->at;
+    while (words->at < words->end && strchr(" \t\r#", *words->at) == NULL) {
+        words->at++;
+    }
+    if (words->at < words->end && *words->at == '#') {
+        words->end = words->at;
+    }
+    *words->at++ = '\0';
+    return word;
+}
+
+/* One setting, as `wp low`. */
+static bool take_setting(struct pull *pull, const char *name, const char *value)
+{
+    static const struct {
+        const char *name;
+        unsigned pin;
+    } pins[] = { { "wp", SAMPLE_WP }, { "tbl", SAMPLE_TBL } };
+    unsigned mask = 0;
+    unsigned bits = 0;
+    if (value == NULL) {
+        return false;
+    }
+    for (size_t i = 0; i < sizeof pins / sizeof pins[0]; i++) {
+        if (strcmp(name, pins[i].name) == 0 && (strcmp(value, "high") == 0 || strcmp(value, "low") == 0)) {
+            mask = pins[i].pin;
+            bits = value[0] == 'h' ? mask : 0;
+        }
+    }
+    uint32_t voltage = 0;
+    if (strcmp(name, "voltage") == 0 && number_take(value, &voltage) && voltage <= 3) {
+        mask = SAMPLE_VOLTAGE;
+        bits = voltage << SAMPLE_VOLTAGE_AT;
+    }
+    pull->mask = (uint16_t)(pull->mask | mask);
+    pull->value = (uint16_t)sample_set(pull->value, mask, bits);
+    return mask != 0;
+}
+
+/* One line. Gives 0 for a blank one, 1 for a pull, -1 for what is neither. */
+static int take_line(struct pull *pull, struct words words)
+{
+    *pull = (struct pull){ 0, 0, 0 };
+    const char *word = next_word(&words);
+    if (word == NULL) {
+        return 0;
+    }
+    const char *clock = next_word(&words);
+    if (strcmp(word, "at") != 0 || clock == NULL || !number_take(clock, &pull->clock)) {
+        return -1;
+    }
+    while ((word = next_word(&words)) != NULL) {
+        if (!take_setting(pull, word, next_word(&words))) {
+            return -1;
+        }
+    }
+    return pull->mask == 0 ? -1 : 1;
+}
+
+static int bad_line(const char *path, size_t number, const char *line)
+{
+    return trouble(TROUBLE_DATA, "%s, line %zu, is no line of a harness track\n"
+                                 "  expected  at CLOCK, then wp high|low, tbl high|low or voltage 0..3; clocks not falling\n"
+                                 "  found     %.60s\n"
+                                 "  do        mend the line, as in: at 1200 wp low",
+                   path, number, line);
+}
+
+static int take_lines(const char *path, char *text, struct track *out)
+{
+    size_t number = 1;
+    for (char *line = text; *line != '\0'; number++) {
+        size_t length = strcspn(line, "\n");
+        char *next = line + length + (line[length] == '\n' ? 1 : 0);
+        char shown[64] = "";
+        memcpy(shown, line, length < sizeof shown - 1 ? length : sizeof shown - 1);
+        line[length] = '\0';
+        struct pull *pull = &out->pulls[out->count];
+        int kind = take_line(pull, (struct words){ line, line + length });
+        bool falls = kind > 0 && out->count > 0 && pull->clock < pull[-1].clock;
+        if (kind < 0 || falls) {
+            return bad_line(path, number, shown);
+        }
+        out->count += kind > 0 ? 1U : 0U;
+        line = next;
+    }
+    return 0;
+}
+
+/* At most one pull stands on a line. */
+static size_t lines_in(const char *text)
+{
+    size_t lines = 1;
+    for (; *text != '\0'; text++) {
+        lines += *text == '\n' ? 1U : 0U;
+    }
+    return lines;
+}
+
+int track_read(const char *path, struct track *out)
+{
+    struct bytes file;
+    *out = (struct track){ NULL, 0 };
+    int status = file_read(path, TRACK_MOST, &file);
+    if (status != 0) {
+        return status;
+    }
+    if (file.more || memchr(file.at, '\0', file.length) != NULL) {
+        status = trouble(TROUBLE_DATA, "%s is no harness track\n"
+                                       "  expected  text of at most a megabyte\n"
+                                       "  found     %s\n"
+                                       "  do        name the track file",
+                         path, file.more ? "more than that" : "bytes that are no text");
+    } else {
+        char *text = must_have(file.length + 1);
+        memcpy(text, file.at, file.length);
+        text[file.length] = '\0';
+        out->pulls = must_have(lines_in(text) * sizeof out->pulls[0]);
+        status = take_lines(path, text, out);
+        free(text);
+    }
+    bytes_free(&file);
+    return status;
+}
+
+void track_lay(const struct track *track, uint8_t *stream, size_t samples)
+{
+    unsigned mask = 0;
+    uint16_t value = 0;
+    size_t next = 0;
+    for (size_t clock = 0; clock < samples; clock++) {
+        for (; next < track->count && track->pulls[next].clock <= clock; next++) {
+            mask |= track->pulls[next].mask;
+            value = sample_set(value, track->pulls[next].mask, track->pulls[next].value);
+        }
+        sample_put(stream, clock, sample_set(sample_at(stream, clock), mask, value));
+    }
+}
+
+void track_free(struct track *track)
+{
+    free(track->pulls);
+    *track = (struct track){ NULL, 0 };
+}
