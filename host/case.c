@@ -32,6 +32,7 @@
  *   refuse NUMBER sheet read XX.. | refuse NUMBER sheet write [straps N] [times P S U] [room LENGTH]
  */
 #include "pod.h"
+#include "same_device.h"
 
 #include <stdarg.h>
 #include <stdbool.h>
@@ -155,33 +156,6 @@ static bool same(int line, const char *what, uint32_t expected, uint32_t found)
     failed(line, "%s: expected %Xh (%u), found %Xh (%u)", what, (unsigned)expected, (unsigned)expected,
            (unsigned)found, (unsigned)found);
     return false;
-}
-
-/* Whether two devices hold the same numbers; the bytes between the fields hold none. */
-static bool same_device(const struct pod_device *x, const struct pod_device *y)
-{
-    static struct pod_device mask;
-    static bool made;
-
-    if (!made) {
-        struct pod_operation *operations[] = {&mask.controller.outer, &mask.controller.inner};
-        const struct pod_times times = {UINT32_MAX, UINT32_MAX, UINT32_MAX};
-
-        mask.straps = 0xFF;
-        memset(mask.locks, 0xFF, sizeof mask.locks);
-        mask.times = times;
-        mask.frame = (struct pod_frame){0xFF, 0xFF, 0xFF, UINT32_MAX};
-        mask.controller.mode = mask.controller.errors = mask.controller.setup = 0xFF;
-        mask.controller.marks = 0xFFFF;
-        for (int i = 0; i < 2; i++)
-            *operations[i] = (struct pod_operation){0xFF, 0xFF, 0xFF, UINT32_MAX, UINT32_MAX, UINT32_MAX, UINT32_MAX, times};
-        made = true;
-    }
-    const uint8_t *a = (const uint8_t *)x, *b = (const uint8_t *)y, *m = (const uint8_t *)&mask;
-    for (size_t i = 0; i < sizeof mask; i++)
-        if ((a[i] ^ b[i]) & m[i])
-            return false;
-    return true;
 }
 
 /* ---- Reading the text ---- */
@@ -684,7 +658,8 @@ static void read_wish(const struct check *c, int first, struct wish *wish, struc
             wish->unsound = true;
         } else if (take_if(w, "class3")) {
             wish->class_3 = true;
-            wish->class_3_at = more(w) && w->word[w->next][0] >= '0' && w->word[w->next][0] <= '9' ? take_decimal(w) : 0;
+            const bool said = more(w) && w->word[w->next][0] >= '0' && w->word[w->next][0] <= '9';
+            wish->class_3_at = said ? take_decimal(w) : 0;
         } else if (take_if(w, "frame")) {
             take_word(w, "low");
             wish->low |= BIT_FRAME;
@@ -954,13 +929,13 @@ static void walk(struct lane_state *lane, bool in_place)
     }
 }
 
-static struct pod_report run_prefix(uint8_t *image, uint32_t samples)
+static struct pod_report run_prefix(uint8_t *image, uint32_t samples, uint32_t room)
 {
     lay_stream(stream, samples);
     memset(answers, FILLER, MAX_SAMPLES + SPARE);
     memcpy(image, first_image, POD_IMAGE_BYTES + SPARE);
-    return pod_run(image, POD_IMAGE_BYTES, stream, 2 * (size_t)samples, answers, samples, sc.straps, sc.program,
-                   sc.slice, sc.pause);
+    return pod_run(image, POD_IMAGE_BYTES, stream, 2 * (size_t)samples, answers, room, sc.straps, sc.program, sc.slice,
+                   sc.pause);
 }
 
 /* What run can be asked in the middle of a scenario: it is run up to there. */
@@ -968,7 +943,7 @@ static void look_by_run(const struct check *c)
 {
     if (!c->by_run || c->kind > CHECK_FILL)
         return;
-    const struct pod_report r = run_prefix(other_image, c->at);
+    const struct pod_report r = run_prefix(other_image, c->at, c->at);
     same(c->line, "number of run", 0, r.number);
     if (c->kind == CHECK_STATUS)
         same(c->line, "status (run)", c->a, r.status);
@@ -1019,7 +994,7 @@ static void carry_out(void)
     for (int i = 0; i < sc.check_count; i++)
         look_by_run(&sc.checks[i]);
 
-    const struct pod_report r = run_prefix(other_image, sc.run_until);
+    const struct pod_report r = run_prefix(other_image, sc.run_until, sc.run_until + SPARE);
     same(sc.line, "number of run", 0, r.number);
     same(sc.line, "samples of run", sc.run_until, r.samples);
     compare_answers(0, sc.run_until, true);
@@ -1033,7 +1008,8 @@ static void carry_out(void)
         same(sc.line, "image: run differs from step", 0,
              memcmp(other_image, step_image, POD_IMAGE_BYTES + SPARE) != 0);
     }
-    same(sc.line, "image: step differs from in place", 0, memcmp(step_image, clock_image, POD_IMAGE_BYTES + SPARE) != 0);
+    same(sc.line, "image: step differs from in place", 0,
+         memcmp(step_image, clock_image, POD_IMAGE_BYTES + SPARE) != 0);
     same(sc.line, "device: step differs from in place", 0, !same_device(&stepped.device, &in_place.device));
 }
 

@@ -3,7 +3,6 @@
 #ifndef CHECK_H
 #define CHECK_H
 
-#include <inttypes.h>
 #include <stdarg.h>
 #include <stdint.h>
 #include <stdio.h>
@@ -54,7 +53,7 @@ static inline int expect(uint32_t wanted, uint32_t found, const char *format, ..
         va_start(words, format);
         vprintf(format, words);
         va_end(words);
-        printf(": expected %" PRIu32 " (%" PRIX32 "h), found %" PRIu32 " (%" PRIX32 "h)\n", wanted, wanted, found, found);
+        printf(": expected %u (%Xh), found %u (%Xh)\n", wanted, wanted, found, found);
     }
     return 0;
 }
@@ -81,6 +80,17 @@ static inline uint32_t any_number(void)
 static inline uint32_t any_below(uint32_t limit)
 {
     return any_number() % limit;
+}
+
+/* Any bytes at all as a device, each below a limit. */
+static inline struct pod_device any_bytes(uint32_t limit)
+{
+    struct pod_device device;
+    uint8_t bytes[sizeof device] = { 0 };
+    for (size_t i = 0; i < sizeof bytes; i++)
+        bytes[i] = (uint8_t)any_below(limit);
+    memcpy(&device, bytes, sizeof device);
+    return device;
 }
 
 /* ---- Lent buffers: `length` bytes between two rows of guard bytes, and a copy of what they are to hold. */
@@ -239,10 +249,31 @@ static inline int in_range(uint32_t number, uint32_t least, uint32_t most)
     return least <= number && number <= most;
 }
 
-static inline int times_in_range(struct pod_times times)
+static inline uint32_t in_clocks(uint32_t micros)
+{
+    return CLOCKS * micros;
+}
+
+/* Three times as a host hands them in, which may be any numbers. */
+struct asked {
+    uint32_t program, slice, pause;
+};
+
+static inline int times_in_range(struct asked times)
 {
     return in_range(times.program, 1, MOST_PROGRAM) && in_range(times.slice, 1, MOST_SLICE)
         && in_range(times.pause, 1, MOST_PAUSE);
+}
+
+static inline struct asked numbers_of(struct pod_times times)
+{
+    return (struct asked){ times.program, times.slice, times.pause };
+}
+
+/* Times that are in range, as the record keeps them. */
+static inline struct pod_times kept(struct asked times)
+{
+    return (struct pod_times){ (uint16_t)times.program, (uint16_t)times.slice, (uint16_t)times.pause };
 }
 
 static inline uint32_t block_of(uint32_t address)
@@ -253,23 +284,25 @@ static inline uint32_t block_of(uint32_t address)
 /* "the frame stage is one of those below, its address within 28 bits" */
 static inline int frame_is_sound(struct pod_frame frame)
 {
+    const uint32_t last = frame.kind == FRAME_READ ? 18 : 16;
     if (frame.kind == FRAME_NONE)
         return 1;
-    return ((frame.kind == FRAME_READ && in_range(frame.clock, 1, 18)) || (frame.kind == FRAME_WRITE && in_range(frame.clock, 1, 16)))
-        && frame.address < 0x10000000;
+    return frame.kind <= FRAME_WRITE && in_range(frame.clock, 1, last) && frame.address < 0x10000000;
 }
 
 /* "any operation's address is below 1,048,576, its own times are in range, and its clocks left and, if pausing, pause
  * clocks left are between 1 and the full number of those times" */
 static inline int operation_is_sound(struct pod_operation operation)
 {
-    if (operation.kind > ERASE || operation.state > SUSPENDED || operation.address >= POD_IMAGE_BYTES || !times_in_range(operation.times))
+    if (operation.kind > ERASE || operation.state > SUSPENDED)
         return 0;
-    if (operation.state == PAUSING && !in_range(operation.pause, 1, CLOCKS * operation.times.pause))
+    if (operation.address >= POD_IMAGE_BYTES || !times_in_range(numbers_of(operation.times)))
+        return 0;
+    if (operation.state == PAUSING && !in_range(operation.pause, 1, in_clocks(operation.times.pause)))
         return 0;
     return operation.kind == PROGRAM
-        ? in_range(operation.left, 1, CLOCKS * operation.times.program)
-        : in_range(operation.left, 1, CLOCKS * operation.times.slice) && in_range(operation.slices, 1, SLICES);
+        ? in_range(operation.left, 1, in_clocks(operation.times.program))
+        : in_range(operation.left, 1, in_clocks(operation.times.slice)) && in_range(operation.slices, 1, SLICES);
 }
 
 static inline int erase_is_suspended(const struct pod_device *device)
@@ -298,20 +331,20 @@ static inline int setup_is_sound(const struct pod_device *device)
     return controller->setup == SETUP_PROGRAM && erase_is_suspended(device) && controller->inner.kind == NO_OPERATION;
 }
 
-static inline int is_sound(const struct pod_device *device)
+static inline uint32_t is_sound(const struct pod_device *device)
 {
     const struct pod_controller *controller = &device->controller;
     for (size_t block = 0; block < POD_BLOCKS; block++)
         if (device->locks[block] > 7)
             return 0;
-    return device->straps <= MOST_STRAPS && times_in_range(device->times) && controller->mode <= MODE_SIGNATURE
+    return device->straps <= MOST_STRAPS && times_in_range(numbers_of(device->times)) && controller->mode <= MODE_SIGNATURE
         && (controller->errors & ~ERROR_BITS) == 0 && frame_is_sound(device->frame)
         && (controller->outer.kind == NO_OPERATION || operation_is_sound(controller->outer))
         && inner_is_sound(device) && setup_is_sound(device);
 }
 
-/* "bit 7 is 0 while running or pausing, a program inside a suspended erase included; 6 is 1 while an erase is suspended,
- * that program or not; 2 while a program is; 0 always 0" */
+/* "bit 7 is 0 while running or pausing, a program inside a suspended erase included; 6 is 1 while an erase is
+ * suspended, that program or not; 2 while a program is; 0 always 0" */
 static inline uint32_t status_of(const struct pod_device *device)
 {
     const struct pod_controller *controller = &device->controller;
@@ -333,9 +366,9 @@ static inline struct pod_device fresh_device(uint32_t straps, struct pod_times t
     return device;
 }
 
-/* The device with 0 in the fields of what is absent, so that two can be compared in what they mean: those of no frame, of
- * no operation, of no pause, the slices of a program, the data of an erase and its place inside its block; and of a frame
- * its byte where none is fixed and its address where it is not yet whole. */
+/* The device with 0 in the fields of what is absent, so that two can be compared in what they mean: those of no frame,
+ * of no operation, of no pause, the slices of a program, the data of an erase and its place inside its block; and of a
+ * frame its byte where none is fixed and its address where it is not yet whole. */
 static inline struct pod_device meant_by(struct pod_device device)
 {
     struct pod_operation *both[] = { &device.controller.outer, &device.controller.inner };
@@ -369,11 +402,14 @@ static inline int same_meaning(const struct pod_device *wanted, const struct pod
 }
 
 /* Devices to start from, one of each kind that a sound device can be, with short times. */
-enum condition { READY, PROGRAM_RUNS, ERASE_RUNS, PROGRAM_PAUSES, ERASE_PAUSES, PROGRAM_SUSPENDED, ERASE_SUSPENDED, PROGRAM_INSIDE, CONDITIONS };
+enum condition {
+    READY, PROGRAM_RUNS, ERASE_RUNS, PROGRAM_PAUSES, ERASE_PAUSES, PROGRAM_SUSPENDED, ERASE_SUSPENDED, PROGRAM_INSIDE,
+    CONDITIONS
+};
 
 static const char *const CONDITION_NAMES[CONDITIONS] = {
-    "ready", "program running", "erase running", "program pausing", "erase pausing", "program suspended", "erase suspended",
-    "program inside suspended erase"
+    "ready", "program running", "erase running", "program pausing", "erase pausing", "program suspended",
+    "erase suspended", "program inside suspended erase"
 };
 
 static inline struct pod_device device_in(enum condition condition)

@@ -1,5 +1,5 @@
-/* Tests what needs no clock, on good, bad and extreme input: power up, set times, soundness, status and marks, bay sheets
- * and the block view. */
+/* Tests what needs no clock, on good, bad and extreme input: power up, set times, soundness, status and marks, bay
+ * sheets and the block view. */
 #include "check.h"
 
 /* The numbers at and around every limit, and those that a narrower type would cut down to a good one. */
@@ -11,29 +11,29 @@ enum { NUMBER_COUNT = sizeof NUMBERS / sizeof NUMBERS[0] };
 
 /* What a field of a device is set to: the ends of every range that soundness names, one before and one past them. */
 static const uint32_t EXTREMES[] = {
-    0, 1, 2, 3, 4, 7, 8, 9, 15, 16, 17, 18, 19, 30, 31, 32, 33, 34, 0x39, 0x3A, 0x3B, 0x40, 0x80, 200, 201, 255, 256, 257,
-    30 * 33, 30 * 33 + 1, 10 * 33, 10 * 33 + 1, 20 * 33, 20 * 33 + 1, 200 * 33, 200 * 33 + 1, 300 * 33, 300 * 33 + 1,
-    39062, 39063, 39062u * 33, 39062u * 33 + 1, 65535, 65536, 65537, 0x30000, 0x34567, 0x70000, 0x7FFFF, 0x80000,
+    0, 1, 2, 3, 4, 7, 8, 9, 15, 16, 17, 18, 19, 30, 31, 32, 33, 34, 0x39, 0x3A, 0x3B, 0x40, 0x80, 200, 201, 255, 256,
+    257, 30 * 33, 30 * 33 + 1, 10 * 33, 10 * 33 + 1, 20 * 33, 20 * 33 + 1, 200 * 33, 200 * 33 + 1, 300 * 33,
+    300 * 33 + 1, 39062, 39063, 39062u * 33, 39062u * 33 + 1, 65535, 65536, 65537, 0x30000, 0x34567, 0x70000, 0x7FFFF, 0x80000,
     0xFFFFF, 0x100000, 0x134567, 0xFFFFFFF, 0x10000000, 0x7FFFFFFF, 0x80000000, 0xFFFFFFFF
 };
 enum { EXTREME_COUNT = sizeof EXTREMES / sizeof EXTREMES[0] };
 
-static const struct pod_times SHEET_TIMES = { .program = 10, .slice = 3906, .pause = 30 };
+static const struct asked SHEET_TIMES = { .program = 10, .slice = 3906, .pause = 30 };
 static const uint8_t SHEET[POD_SHEET_BYTES] = {
     0x01, 0x01, 0x00, 0x00, 0x02, 0x06, 0x00, 0x0A, 0x00, 0x42, 0x0F, 0x1E, 0x00
 };
 
 /* ---- Power up and set times. */
 
-static void test_power_up(uint32_t straps, struct pod_times times)
+static void test_power_up(uint32_t straps, struct asked times)
 {
     const uint32_t number = straps > MOST_STRAPS ? 3 : !times_in_range(times) ? 4 : 0;
-    const struct pod_device wanted = number == 0 ? fresh_device(straps, times) : fresh_device(0, SHEET_TIMES);
+    const struct pod_device wanted = fresh_device(number == 0 ? straps : 0, kept(number == 0 ? times : SHEET_TIMES));
     const struct pod_powered powered = pod_power_up(straps, times.program, times.slice, times.pause);
-    expect(number, powered.number, "straps %" PRIu32 ", times %" PRIu32 " %" PRIu32 " %" PRIu32, straps, times.program, times.slice,
+    expect(number, powered.number, "straps %u, times %u %u %u", straps, times.program, times.slice,
            times.pause);
     same_meaning(&wanted, &powered.device, "the device powered up");
-    expect(1, (uint32_t)is_sound(&powered.device), "the device powered up is sound");
+    expect(1, is_sound(&powered.device), "the device powered up is sound");
 }
 
 static void test_powering_up(void)
@@ -42,32 +42,32 @@ static void test_powering_up(void)
     for (size_t i = 0; i < NUMBER_COUNT; i++) {
         const uint32_t n = NUMBERS[i];
         test_power_up(n, SHEET_TIMES);
-        test_power_up(5, (struct pod_times){ n, 3906, 30 });
-        test_power_up(5, (struct pod_times){ 10, n, 30 });
-        test_power_up(5, (struct pod_times){ 10, 3906, n });
+        test_power_up(5, (struct asked){ n, 3906, 30 });
+        test_power_up(5, (struct asked){ 10, n, 30 });
+        test_power_up(5, (struct asked){ 10, 3906, n });
     }
     check_group("power up: all four numbers at their extremes, the lowest refusal given");
     for (size_t i = 0; i < NUMBER_COUNT; i++)
         for (size_t j = 0; j < NUMBER_COUNT; j++)
             for (size_t k = 0; k < NUMBER_COUNT; k += 2)
                 for (size_t l = 0; l < NUMBER_COUNT; l += 2)
-                    test_power_up(NUMBERS[i], (struct pod_times){ NUMBERS[j], NUMBERS[k], NUMBERS[l] });
+                    test_power_up(NUMBERS[i], (struct asked){ NUMBERS[j], NUMBERS[k], NUMBERS[l] });
     check_group("power up: status 80h and no marks, for each straps");
     for (uint32_t straps = 0; straps <= MOST_STRAPS; straps++) {
         const struct pod_device device = pod_power_up(straps, 200, 39062, 30).device;
-        expect(0x80, pod_status(device), "status, straps %" PRIu32, straps);
-        expect(0, pod_marks(device), "marks, straps %" PRIu32, straps);
+        expect(0x80, pod_status(device), "status, straps %u", straps);
+        expect(0, pod_marks(device), "marks, straps %u", straps);
     }
 }
 
-static void test_set_times(struct pod_device device, struct pod_times times)
+static void test_set_times(struct pod_device device, struct asked times)
 {
     const uint32_t number = !is_sound(&device) ? 1 : !times_in_range(times) ? 4 : 0;
     struct pod_device wanted = device;
     if (number == 0)
-        wanted.times = times;
+        wanted.times = kept(times);
     const struct pod_powered set = pod_set_times(device, times.program, times.slice, times.pause);
-    expect(number, set.number, "times %" PRIu32 " %" PRIu32 " %" PRIu32, times.program, times.slice, times.pause);
+    expect(number, set.number, "times %u %u %u", times.program, times.slice, times.pause);
     same_device(&wanted, &set.device, "the device with its times set");
 }
 
@@ -78,22 +78,22 @@ static void test_setting_times(void)
         const struct pod_device device = device_in(condition);
         for (size_t i = 0; i < NUMBER_COUNT; i++) {
             const uint32_t n = NUMBERS[i];
-            test_set_times(device, (struct pod_times){ n, 3906, 30 });
-            test_set_times(device, (struct pod_times){ 10, n, 30 });
-            test_set_times(device, (struct pod_times){ 10, 3906, n });
-            test_set_times(device, (struct pod_times){ n, n, n });
+            test_set_times(device, (struct asked){ n, 3906, 30 });
+            test_set_times(device, (struct asked){ 10, n, 30 });
+            test_set_times(device, (struct asked){ 10, 3906, n });
+            test_set_times(device, (struct asked){ n, n, n });
         }
     }
     check_group("set times: refusal 1 before refusal 4");
     for (size_t i = 0; i < NUMBER_COUNT; i++) {
         struct pod_device device = device_in(ERASE_SUSPENDED);
         device.straps = 16;
-        test_set_times(device, (struct pod_times){ NUMBERS[i], 0, 0 });
+        test_set_times(device, (struct asked){ NUMBERS[i], 0, 0 });
     }
     check_group("set times: own times out of range make the device unsound");
     for (size_t i = 0; i < NUMBER_COUNT; i++) {
         struct pod_device device = device_in(READY);
-        device.times.slice = NUMBERS[i];
+        device.times.slice = (uint16_t)(NUMBERS[i] & 0xFFFF);
         test_set_times(device, SHEET_TIMES);
     }
 }
@@ -105,11 +105,11 @@ static struct lent image, page;
 /* Every call here takes the device as sound exactly where document 01 does. */
 static void test_soundness(const struct pod_device *device)
 {
-    const int sound = is_sound(device);
+    const uint32_t sound = is_sound(device);
     const struct pod_powered set = pod_set_times(*device, 200, 39062, 30);
     struct pod_device wanted = *device;
     if (sound)
-        wanted.times = (struct pod_times){ 200, 39062, 30 };
+        wanted.times = kept((struct asked){ 200, 39062, 30 });
     expect(sound ? 0 : 1, set.number, "set times");
     same_device(&wanted, &set.device, "the device with its times set");
     expect(sound ? status_of(device) : 0, pod_status(*device), "status");
@@ -143,7 +143,7 @@ static void test_sound_devices(void)
     check_group("soundness: the devices to start from are sound");
     for (size_t i = 0; i < STARTS; i++) {
         const struct pod_device device = start(i);
-        expect(1, (uint32_t)is_sound(&device), "start %zu", i);
+        expect(1, is_sound(&device), "start %zu", i);
         test_soundness(&device);
     }
     check_group("soundness: one field at each extreme");
@@ -174,10 +174,10 @@ static void test_sound_devices(void)
         struct pod_device device = device_in(PROGRAM_INSIDE);
         device.controller.outer.kind = i & 3;
         device.controller.outer.state = i >> 2 & 3;
-        device.controller.outer.pause = 1;
+        device.controller.outer.pause = device.controller.outer.left = 1;
         device.controller.inner.kind = i >> 4 & 3;
         device.controller.inner.state = i >> 6 & 3;
-        device.controller.inner.pause = 1;
+        device.controller.inner.pause = device.controller.inner.left = device.controller.inner.slices = 1;
         device.controller.setup = i >> 8 & 3;
         device.controller.inner.address = (i >> 10 & 1) != 0 ? 0x7FFFF : 0x6FFFF;
         test_soundness(&device);
@@ -206,7 +206,7 @@ static void test_absent_fields(void)
                     both[j]->pause = 0xFFFFFFFF;
             }
         }
-        expect(1, (uint32_t)is_sound(&device), "start %zu with all else FFh", i);
+        expect(1, is_sound(&device), "start %zu with all else FFh", i);
         test_soundness(&device);
     }
 }
@@ -216,8 +216,7 @@ static void test_random_devices(void)
     struct pod_device device;
     check_group("random bytes as a device");
     for (int round = 0; round < 100000; round++) {
-        for (size_t i = 0; i < sizeof device; i++)
-            ((uint8_t *)&device)[i] = (uint8_t)any_below(round % 2 == 0 ? 256 : 3);
+        device = any_bytes(round % 2 == 0 ? 256 : 3);
         test_soundness(&device);
     }
     check_group("one byte repeated as a device");
@@ -250,21 +249,23 @@ static void test_status_and_marks(void)
 static struct pod_sheet read_plainly(const uint8_t *sheet, size_t length)
 {
     const struct pod_sheet nothing = { .number = 8 };
-    if (length != POD_SHEET_BYTES || sheet[0] != 1 || sheet[1] != 1 || sheet[2] != 0 || sheet[4] != 2 || sheet[5] != 6 || sheet[6] != 0)
+    if (length != POD_SHEET_BYTES)
         return nothing;
-    const struct pod_times times = {
-        .program = sheet[7] + 256u * sheet[8], .slice = sheet[9] + 256u * sheet[10], .pause = sheet[11] + 256u * sheet[12]
-    };
-    if (sheet[3] > MOST_STRAPS)
+    if (sheet[0] != 1 || sheet[1] != 1 || sheet[2] != 0 || sheet[4] != 2 || sheet[5] != 6 || sheet[6] != 0)
+        return nothing;
+    const uint32_t straps = sheet[3], program = sheet[7] + 256u * sheet[8];
+    const uint32_t slice = sheet[9] + 256u * sheet[10], pause = sheet[11] + 256u * sheet[12];
+    if (straps > MOST_STRAPS)
         return (struct pod_sheet){ .number = 3 };
-    if (!times_in_range(times))
+    if (!times_in_range((struct asked){ program, slice, pause }))
         return (struct pod_sheet){ .number = 4 };
-    return (struct pod_sheet){ .straps = sheet[3], .program = times.program, .slice = times.slice, .pause = times.pause };
+    return (struct pod_sheet){ .straps = straps, .program = program, .slice = slice, .pause = pause };
 }
 
 static struct pod_sheet test_sheet_read(const struct lent *sheet)
 {
-    const struct pod_sheet wanted = read_plainly(sheet->bytes, sheet->length), found = pod_sheet_read(sheet->bytes, sheet->length);
+    const struct pod_sheet wanted = read_plainly(sheet->bytes, sheet->length);
+    const struct pod_sheet found = pod_sheet_read(sheet->bytes, sheet->length);
     expect(wanted.number, found.number, "sheet of %zu bytes", sheet->length);
     expect(wanted.straps, found.straps, "straps of a sheet");
     expect(wanted.program, found.program, "program time of a sheet");
@@ -351,9 +352,10 @@ static void test_reading_sheets(void)
     give_back(&sheet);
 }
 
-static uint32_t test_sheet_write(const struct lent *buffer, uint32_t straps, struct pod_times times)
+static uint32_t test_sheet_write(const struct lent *buffer, uint32_t straps, struct asked times)
 {
-    const uint32_t number = straps > MOST_STRAPS ? 3 : !times_in_range(times) ? 4 : buffer->length < POD_SHEET_BYTES ? 6 : 0;
+    const size_t length = buffer->length;
+    const uint32_t number = straps > MOST_STRAPS ? 3 : !times_in_range(times) ? 4 : length < POD_SHEET_BYTES ? 6 : 0;
     if (number == 0) {
         const uint32_t values[] = { times.program, times.slice, times.pause };
         memcpy(buffer->wanted, SHEET, POD_SHEET_BYTES);
@@ -363,8 +365,8 @@ static uint32_t test_sheet_write(const struct lent *buffer, uint32_t straps, str
             buffer->wanted[8 + 2 * i] = (uint8_t)(values[i] >> 8 & 0xFF);
         }
     }
-    const uint32_t found = pod_sheet_write(buffer->bytes, buffer->length, straps, times.program, times.slice, times.pause);
-    expect(number, found, "sheet write, %zu bytes, straps %" PRIu32 ", times %" PRIu32 " %" PRIu32 " %" PRIu32, buffer->length, straps,
+    const uint32_t found = pod_sheet_write(buffer->bytes, length, straps, times.program, times.slice, times.pause);
+    expect(number, found, "sheet write, %zu bytes, straps %u, times %u %u %u", buffer->length, straps,
            times.program, times.slice, times.pause);
     lent_stands(buffer, "buffer for a sheet");
     return found;
@@ -386,11 +388,11 @@ static void test_writing_sheets(void)
             const uint32_t n = NUMBERS[i];
             fill_with_any(&buffer);
             test_sheet_write(&buffer, n, SHEET_TIMES);
-            test_sheet_write(&buffer, n, (struct pod_times){ n, n, n });
+            test_sheet_write(&buffer, n, (struct asked){ n, n, n });
             fill_with_any(&buffer);
-            test_sheet_write(&buffer, 15, (struct pod_times){ n, 3906, 30 });
-            test_sheet_write(&buffer, 15, (struct pod_times){ 10, n, 30 });
-            test_sheet_write(&buffer, 15, (struct pod_times){ 10, 3906, n });
+            test_sheet_write(&buffer, 15, (struct asked){ n, 3906, 30 });
+            test_sheet_write(&buffer, 15, (struct asked){ 10, n, 30 });
+            test_sheet_write(&buffer, 15, (struct asked){ 10, 3906, n });
         }
         give_back(&buffer);
     }
@@ -404,7 +406,7 @@ static void test_writing_sheets(void)
     buffer = lend(POD_SHEET_BYTES);
     for (int round = 0; round < 20000; round++) {
         const uint32_t straps = any_below(16);
-        const struct pod_times times = { 1 + any_below(200), 1 + any_below(39062), 1 + any_below(30) };
+        const struct asked times = { 1 + any_below(200), 1 + any_below(39062), 1 + any_below(30) };
         if (test_sheet_write(&buffer, straps, times) != 0)
             continue;
         const struct pod_sheet found = test_sheet_read(&buffer);
@@ -413,8 +415,7 @@ static void test_writing_sheets(void)
         expect(times.slice, found.slice, "slice time read back");
         expect(times.pause, found.pause, "pause time read back");
         memset(buffer.bytes, 0, buffer.length);
-        expect(0, pod_sheet_write(buffer.bytes, buffer.length, found.straps, found.program, found.slice, found.pause), "written again");
-        lent_stands(&buffer, "sheet written again");
+        test_sheet_write(&buffer, found.straps, (struct asked){ found.program, found.slice, found.pause });
     }
     give_back(&buffer);
 }
@@ -423,13 +424,19 @@ static void test_writing_sheets(void)
 
 enum { FROM_NOTHING, FROM_IMAGE, FROM_PAGE };
 
-static void test_view(const struct pod_device *device, size_t image_length, const struct lent *lent_page, size_t page_length,
-                      uint32_t block, uint32_t from)
+/* Where a block is shown from when nothing is wrong. */
+static uint32_t shown(const struct pod_device *device, uint32_t block)
+{
+    return (device->locks[block] & READ_LOCKED) != 0 ? FROM_PAGE : FROM_IMAGE;
+}
+
+static void test_view(const struct pod_device *device, size_t image_length, const struct lent *lent_page,
+                      size_t page_length, uint32_t block, uint32_t from)
 {
     const struct pod_part part = pod_view(*device, image.bytes, image_length, lent_page->bytes, page_length, block);
-    expect(from, part.from, "view of block %" PRIu32 ", image %zu, page %zu: from", block, image_length, page_length);
-    expect(from == FROM_IMAGE ? block * POD_BLOCK_BYTES : 0, part.start, "view of block %" PRIu32 ": start", block);
-    expect(from == FROM_NOTHING ? 0 : POD_BLOCK_BYTES, part.length, "view of block %" PRIu32 ": length", block);
+    expect(from, part.from, "view of block %u, image %zu, page %zu: from", block, image_length, page_length);
+    expect(from == FROM_IMAGE ? block * POD_BLOCK_BYTES : 0, part.start, "view of block %u: start", block);
+    expect(from == FROM_NOTHING ? 0 : POD_BLOCK_BYTES, part.length, "view of block %u: length", block);
     lent_stands(&image, "image");
     lent_stands(lent_page, "page");
 }
@@ -446,7 +453,7 @@ static void test_views(void)
                 device.controller.mode = (uint8_t)(lock % 3);
                 memset(device.locks, 7 - (int)lock, sizeof device.locks);
                 device.locks[block] = (uint8_t)lock;
-                test_view(&device, POD_IMAGE_BYTES, &page, POD_BLOCK_BYTES, block, (lock & READ_LOCKED) ? FROM_PAGE : FROM_IMAGE);
+                test_view(&device, POD_IMAGE_BYTES, &page, POD_BLOCK_BYTES, block, shown(&device, block));
             }
 
     check_group("view: an unsound device shows nothing");
@@ -456,7 +463,7 @@ static void test_views(void)
             set_field(&device, field, EXTREMES[i]);
             const uint32_t block = any_below(16);
             test_view(&device, POD_IMAGE_BYTES, &page, POD_BLOCK_BYTES, block,
-                      !is_sound(&device) ? FROM_NOTHING : (device.locks[block] & READ_LOCKED) ? FROM_PAGE : FROM_IMAGE);
+                      is_sound(&device) ? shown(&device, block) : FROM_NOTHING);
         }
 
     check_group("view: a wrong image length shows nothing");
@@ -485,7 +492,7 @@ static void test_views(void)
         memset(device.locks, (int)lock, sizeof device.locks);
         for (size_t i = 0; i < sizeof page_lengths / sizeof page_lengths[0]; i++)
             test_view(&device, POD_IMAGE_BYTES, &longer, page_lengths[i], 3, FROM_NOTHING);
-        test_view(&device, POD_IMAGE_BYTES, &longer, POD_BLOCK_BYTES, 3, (lock & READ_LOCKED) ? FROM_PAGE : FROM_IMAGE);
+        test_view(&device, POD_IMAGE_BYTES, &longer, POD_BLOCK_BYTES, 3, shown(&device, 3));
     }
 
     check_group("view: a page with one byte that is not 00h shows nothing; one past its end is not looked at");
@@ -497,14 +504,15 @@ static void test_views(void)
                 memset(device.locks, (int)lock, sizeof device.locks);
                 fill(&longer, places[i], 1, values[j]);
                 test_view(&device, POD_IMAGE_BYTES, &longer, POD_BLOCK_BYTES, 9,
-                          places[i] < POD_BLOCK_BYTES ? FROM_NOTHING : (lock & READ_LOCKED) ? FROM_PAGE : FROM_IMAGE);
+                          places[i] < POD_BLOCK_BYTES ? FROM_NOTHING : shown(&device, 9));
                 fill(&longer, places[i], 1, 0);
             }
 
     check_group("view: a page with one byte at each place in turn shows nothing");
     for (size_t place = 0; place < POD_BLOCK_BYTES; place += 61) {
         longer.bytes[place] = 1;
-        expect(FROM_NOTHING, pod_view(device, image.bytes, POD_IMAGE_BYTES, longer.bytes, POD_BLOCK_BYTES, 9).from, "place %zu", place);
+        const struct pod_part part = pod_view(device, image.bytes, POD_IMAGE_BYTES, longer.bytes, POD_BLOCK_BYTES, 9);
+        expect(FROM_NOTHING, part.from, "view with one byte at %zu: from", place);
         longer.bytes[place] = 0;
     }
     lent_stands(&longer, "page");

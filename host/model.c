@@ -48,19 +48,20 @@ static const uint8_t status_of[] = {
     [PROGRAM_INSIDE] = 0x40,
 };
 
-/* The command table: what a command byte does, by condition and by column. */
+/* The command table, by condition and by column. A, S and G set array, status and signature mode, C clears the errors,
+ * P and E begin a setup, Z asks for a pause, R resumes, O does nothing. */
 enum column { COL_FF, COL_70, COL_90, COL_50, COL_40, COL_20, COL_B0, COL_D0, COL_OTHER, COLUMNS };
 
-enum action { NONE, TO_ARRAY, TO_STATUS, TO_SIGNATURE, CLEAR, BEGIN_PROGRAM, BEGIN_ERASE, ASK_PAUSE, RESUME };
+enum action { O, A, S, G, C, P, E, Z, R };
 
 static const uint8_t action_of[][COLUMNS] = {
-    /*                       FF        70         90, 98        50     40, 10         20           B0         D0 */
-    [READY]             = { TO_ARRAY, TO_STATUS, TO_SIGNATURE, CLEAR, BEGIN_PROGRAM, BEGIN_ERASE, NONE,      NONE,   NONE },
-    [RUNNING]           = { NONE,     TO_STATUS, NONE,         NONE,  NONE,          NONE,        ASK_PAUSE, NONE,   NONE },
-    [PAUSING]           = { NONE,     NONE,      NONE,         NONE,  NONE,          NONE,        NONE,      NONE,   NONE },
-    [PROGRAM_SUSPENDED] = { TO_ARRAY, TO_STATUS, TO_SIGNATURE, NONE,  NONE,          NONE,        NONE,      RESUME, NONE },
-    [ERASE_SUSPENDED]   = { TO_ARRAY, TO_STATUS, TO_SIGNATURE, NONE,  BEGIN_PROGRAM, NONE,        NONE,      RESUME, NONE },
-    [PROGRAM_INSIDE]    = { NONE,     TO_STATUS, NONE,         NONE,  NONE,          NONE,        NONE,      NONE,   NONE },
+    /*                      FF 70 90 50 40 20 B0 D0 other */
+    [READY]             = { A, S, G, C, P, E, O, O, O },
+    [RUNNING]           = { O, S, O, O, O, O, Z, O, O },
+    [PAUSING]           = { O, O, O, O, O, O, O, O, O },
+    [PROGRAM_SUSPENDED] = { A, S, G, O, O, O, O, R, O },
+    [ERASE_SUSPENDED]   = { A, S, G, O, P, O, O, R, O },
+    [PROGRAM_INSIDE]    = { O, S, O, O, O, O, O, O, O },
 };
 
 static enum column column_of(uint8_t byte)
@@ -194,33 +195,33 @@ static void end_setup(struct model *m, uint32_t address, uint8_t byte, uint32_t 
 static void command(struct model *m, uint8_t byte)
 {
     switch ((enum action)action_of[m->condition][column_of(byte)]) {
-    case NONE:
+    case O:
         break;
-    case TO_ARRAY:
+    case A:
         m->mode = MODE_ARRAY;
         break;
-    case TO_STATUS:
+    case S:
         m->mode = MODE_STATUS;
         break;
-    case TO_SIGNATURE:
+    case G:
         m->mode = MODE_SIGNATURE;
         break;
-    case CLEAR:
+    case C:
         m->errors = 0;
         break;
-    case BEGIN_PROGRAM:
+    case P:
         m->setup = SETUP_PROGRAM;
         m->mode = MODE_STATUS;
         break;
-    case BEGIN_ERASE:
+    case E:
         m->setup = SETUP_ERASE;
         m->mode = MODE_STATUS;
         break;
-    case ASK_PAUSE:
+    case Z:
         m->pause_left = m->erasing ? m->erase.pause_clocks : m->program.pause_clocks;
         m->condition = PAUSING;
         break;
-    case RESUME:
+    case R:
         m->erasing = m->condition == ERASE_SUSPENDED;
         m->condition = RUNNING;
         m->mode = MODE_STATUS;

@@ -24,9 +24,9 @@ enum {
 
 /* Three times in microseconds. */
 struct pod_times {
-    uint32_t program;
-    uint32_t slice;
-    uint32_t pause;
+    uint16_t program;
+    uint16_t slice;
+    uint16_t pause;
 };
 
 /* The frame in progress. kind: 0 none, 1 read, 2 write; clock: the last clock of it that is done. */
@@ -94,10 +94,10 @@ struct pod_part    pod_view(struct pod_device device, const uint8_t *image, size
 uint32_t           pod_status(struct pod_device device);   /* both total: 0 for an unsound device */
 uint32_t           pod_marks(struct pod_device device);
 
-_Static_assert(sizeof(struct pod_times) == 12, "pod_times");
+_Static_assert(sizeof(struct pod_times) == 6, "pod_times");
 _Static_assert(sizeof(struct pod_frame) == 8, "pod_frame");
-_Static_assert(sizeof(struct pod_operation) == 32, "pod_operation");
-_Static_assert(sizeof(struct pod_controller) == 72, "pod_controller");
-_Static_assert(sizeof(struct pod_device) == 112, "pod_device");
+_Static_assert(sizeof(struct pod_operation) == 28, "pod_operation");
+_Static_assert(sizeof(struct pod_controller) == 64, "pod_controller");
+_Static_assert(sizeof(struct pod_device) == 96, "pod_device");
 
 #endif

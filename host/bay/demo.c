@@ -6,29 +6,39 @@
 #include "options.h"
 #include "sample.h"
 #include "text.h"
-#include "trouble.h"
 #include "words.h"
 
+#include <stdbool.h>
 #include <stdlib.h>
 #include <string.h>
 
 enum {
     BAYS = 12,
-    PULL = 700000, /* the clock on which the harness pulls write protect low */
-    SPREAD = 60000 /* clocks between one bay's erase and the next one's */
+    PAUSED_BAY = 6,
+    PULL = 700000,  /* the clock on which the harness pulls write protect low */
+    SPREAD = 60000, /* clocks between one bay's erase and the next one's */
+    NAP = 150000    /* clocks for which the paused bay erases before its pause */
 };
 
-static const struct settings times = { 0, 10, 100, 30 };
+static const struct settings bay_settings = { 0, 10, 100, 30 };
 
-/* What one bay went through. left: bytes of the old firmware still in the block. */
+/* What one bay went through. blank_at_pull: bytes that the erase had filled when the pin fell; kept: bytes of the old
+ * firmware at the end; elsewhere: other blocks that have changed. */
 struct night {
+    unsigned bay;
     unsigned block;
     uint64_t begun;
     uint64_t over;
-    size_t left_at_pull;
-    size_t left_at_end;
+    size_t blank_at_pull;
+    size_t kept;
+    uint32_t elsewhere;
     uint32_t status;
-    bool paused;
+};
+
+/* What all bays share: the firmware they start from, and the page of zeros that the block view wants. */
+struct stock {
+    uint8_t *firmware;
+    uint8_t *page;
 };
 
 static uint32_t array_address(unsigned block)
@@ -41,145 +51,171 @@ static uint32_t lock_address(unsigned block)
     return 0xFB00002U + block * POD_BLOCK_BYTES;
 }
 
-/* The old firmware of a bay: no byte of it is FFh, so that a blank byte is one that an erase has filled. */
-static void fill(uint8_t *image, unsigned bay)
+/* No byte of the old firmware is FFh, so that a blank byte is one that an erase has filled. */
+static void fill(uint8_t *firmware)
 {
     for (size_t i = 0; i < POD_IMAGE_BYTES; i++) {
-        image[i] = (uint8_t)((i * 7 + (i >> 8) * 13 + bay) % 251);
+        firmware[i] = (uint8_t)((i * 7 + (i >> 8) * 13) % 251);
     }
 }
 
-/* The bytes of a block that are not blank, as the library shows the block. */
-static size_t firmware_left(const struct bench *bench, const uint8_t *page, unsigned block)
+/* The blank bytes of a block, as the library shows the block. */
+static size_t blank_bytes(const struct bench *bench, const uint8_t *page, unsigned block)
 {
     struct pod_part part = pod_view(bench->device, bench->image, bench->image_length, page, POD_BLOCK_BYTES, block);
-    const uint8_t *at = part.from == 1 ? bench->image : page;
-    size_t left = 0;
+    const uint8_t *shown = (part.from == 1 ? bench->image : page) + part.start;
+    size_t blank = 0;
     for (size_t i = 0; i < part.length; i++) {
-        left += at[part.start + i] != 0xFF ? 1U : 0U;
+        blank += shown[i] == 0xFF ? 1U : 0U;
     }
-    return left;
+    return blank;
 }
 
-/* One bay's night, from power-up to rest. The bay begins its erase on the clock that `begun` says. */
-static void live(struct bench *bench, const uint8_t *page, struct night *night)
+static void rest_until(struct bench *bench, uint64_t clock)
 {
-    uint32_t array = array_address(night->block);
-    bool late = night->begun >= PULL;
-    bench_write(bench, lock_address(night->block), 0x00);
-    bench_rest(bench, (late ? PULL : night->begun) - bench->clock);
-    if (!late) {
-        bench_write(bench, array, 0x20);
-        bench_write(bench, array, 0xD0);
-        night->begun = bench->clock;
-        if (night->paused) {
-            bench_write(bench, array, 0xB0);
-        }
-        bench_rest(bench, PULL - bench->clock);
+    if (clock > bench->clock) {
+        bench_rest(bench, clock - bench->clock);
     }
-    night->left_at_pull = firmware_left(bench, page, night->block);
+}
+
+/* The updater's way to erase a block, begun on the clock that the night says. */
+static void erase(struct bench *bench, struct night *night)
+{
+    rest_until(bench, night->begun);
+    bench_write(bench, lock_address(night->block), 0x00);
+    bench_write(bench, array_address(night->block), 0x20);
+    bench_write(bench, array_address(night->block), 0xD0);
+    night->begun = bench->clock;
+}
+
+/* One bay's night, from power-up to rest. */
+static void live(struct bench *bench, const struct stock *stock, struct night *night)
+{
+    bool early = night->begun < PULL;
+    bool pauses = night->bay == PAUSED_BAY;
+    if (early) {
+        erase(bench, night);
+    }
+    if (pauses) {
+        rest_until(bench, night->begun + NAP);
+        bench_write(bench, array_address(night->block), 0xB0);
+    }
+    rest_until(bench, PULL);
+    night->blank_at_pull = blank_bytes(bench, stock->page, night->block);
     bench->idle = sample_set(bench->idle, SAMPLE_WP, 0);
-    if (late) {
-        bench_rest(bench, night->begun - bench->clock);
-        bench_write(bench, array, 0x20);
-        bench_write(bench, array, 0xD0);
-        night->begun = bench->clock;
-    } else if (night->paused) {
-        bench_write(bench, array, 0xD0);
+    if (pauses) {
+        bench_write(bench, array_address(night->block), 0xD0);
+    }
+    if (!early) {
+        erase(bench, night);
     }
     bench_settle(bench);
     night->over = bench->clock;
     night->status = pod_status(bench->device);
-    night->left_at_end = firmware_left(bench, page, night->block);
+    night->kept = POD_BLOCK_BYTES - blank_bytes(bench, stock->page, night->block);
+    night->elsewhere = blocks_changed(stock->firmware, bench->image) & ~(1U << night->block);
 }
 
-/* The old model looked at the pin when the erase was over, not when it began: with the pin low by then it kept the
+/* The old model looked at the pin when an erase was over and not when it began; with the pin low by then it kept the
  * block. */
 static bool old_model_keeps(const struct night *night)
 {
     return night->over >= PULL;
 }
 
-static const char *holds(size_t left)
+static const char *holds(size_t kept)
 {
-    return left == 0 ? "blank" : left == POD_BLOCK_BYTES ? "whole" : "in part";
-}
-
-static void tell_row(struct text *text, unsigned bay, const struct night *night)
-{
-    text_add(text, "%3u  %5u  %9s", bay, night->block, counted(night->begun).text);
-    text_add(text, "  %6s", counted(POD_BLOCK_BYTES - night->left_at_pull).text);
-    text_add(text, "  %11s", counted(night->over).text);
-    text_add(text, "  %-26s  %-8s  %s\n", brief_status(night->status).text, holds(night->left_at_end),
-             old_model_keeps(night) ? "whole" : "blank");
+    if (kept == 0) {
+        return "blank";
+    }
+    return kept == POD_BLOCK_BYTES ? "whole" : "in part";
 }
 
 static void tell_story(struct text *text)
 {
-    text_add(text, "Twelve bays, each with the old firmware in every block, erase one block each.\n"
-                   "A slice takes %u microseconds here, so an erase takes %s clocks.\n"
-                   "On clock %s the harness pulls write protect low for all twelve.\n"
-                   "Bay 11 is paused at that moment and goes on afterwards; bay 12 begins too late.\n\n",
-             (unsigned)times.slice, counted(256ULL * times.slice * CLOCKS_IN_MICROSECOND).text, counted(PULL).text);
-    text_add(text, "                     blank                                                       old\n"
-                   "bay  block      begun  at pull       over  status                      block     model\n");
+    text_add(text, "Twelve bays hold the old firmware, and each erases one block, in slices of %u\n"
+                   "microseconds. On clock %s the harness pulls write protect low for all\n"
+                   "twelve. Bay %d is paused at that moment and goes on afterwards; bay %d begins\n"
+                   "too late.\n\n",
+             (unsigned)bay_settings.slice, counted(PULL).text, PAUSED_BAY, BAYS);
+    text_add(text, "%3s  %5s  %7s  %9s  %10s  %-27s  %-5s  %s\n", "", "", "erase", "blank", "erase", "", "block", "old");
+    text_add(text, "%3s  %5s  %7s  %9s  %10s  %-27s  %-5s  %s\n", "bay", "block", "begun", "at pull", "over", "status", "now",
+             "model");
+}
+
+static void tell_row(struct text *text, const struct night *night)
+{
+    text_add(text, "%3u  %5u  %7s  %9s", night->bay, night->block, counted(night->begun).text,
+             counted(night->blank_at_pull).text);
+    text_add(text, "  %10s  %-27s  %-5s  %s\n", counted(night->over).text, brief_status(night->status).text,
+             holds(night->kept), old_model_keeps(night) ? "whole" : "blank");
 }
 
 static void tell_end(struct text *text, const struct night *nights)
 {
+    unsigned before = 0;
     unsigned finished = 0;
-    unsigned kept = 0;
+    unsigned away = 0;
     unsigned wrong = 0;
+    uint32_t elsewhere = 0;
     for (unsigned i = 0; i < BAYS; i++) {
-        bool blank = nights[i].left_at_end == 0;
-        finished += blank ? 1U : 0U;
-        kept += nights[i].left_at_end == POD_BLOCK_BYTES ? 1U : 0U;
+        bool early = nights[i].begun < PULL;
+        bool blank = nights[i].kept == 0;
+        before += early ? 1U : 0U;
+        finished += early && blank ? 1U : 0U;
+        away += !early && nights[i].kept == POD_BLOCK_BYTES ? 1U : 0U;
         wrong += blank && old_model_keeps(&nights[i]) ? 1U : 0U;
+        elsewhere |= nights[i].elsewhere;
     }
-    text_add(text, "\n%u erases were begun before write protect fell, and each of them finished.\n"
-                   "%u was begun after it, was turned away, and its block is whole.\n"
-                   "The old model asked for write protect when an erase was over. It would have left\n"
-                   "%u blocks whole that are blank on the board.\n",
-             finished, kept, wrong);
+    text_add(text, "\nErases begun before write protect fell: %u. Finished: %u.\n"
+                   "Erases begun after it: %u. Turned away, the block whole: %u.\n"
+                   "Other blocks that changed: %s.\n"
+                   "The old model asked for write protect when an erase was over. It would have\n"
+                   "left %u blocks whole that are blank on the board.\n",
+             before, finished, BAYS - before, away, brief_blocks(elsewhere).text, wrong);
 }
 
-static int show(struct text *text)
+static int show(struct text *text, const struct stock *stock, uint8_t *image)
 {
-    uint8_t *image = must_have(POD_IMAGE_BYTES);
-    uint8_t *page = must_have(POD_BLOCK_BYTES);
     struct night nights[BAYS];
-    uint32_t refusal = 0;
-    memset(page, 0, POD_BLOCK_BYTES);
     memset(nights, 0, sizeof nights);
     tell_story(text);
-    for (unsigned i = 0; i < BAYS && refusal == 0; i++) {
+    for (unsigned i = 0; i < BAYS; i++) {
         struct bench bench = { .image = image, .image_length = POD_IMAGE_BYTES, .idle = SAMPLE_IDLE };
+        nights[i].bay = i + 1;
         nights[i].block = i;
-        nights[i].paused = i == BAYS - 2;
         nights[i].begun = (i + 1ULL) * SPREAD;
-        fill(image, i + 1);
-        bench_power_up(&bench, &times);
-        live(&bench, page, &nights[i]);
-        refusal = bench.refusal;
-        tell_row(text, i + 1, &nights[i]);
+        memcpy(image, stock->firmware, POD_IMAGE_BYTES);
+        bench_power_up(&bench, &bay_settings);
+        live(&bench, stock, &nights[i]);
+        if (bench.refusal != 0) {
+            return refused(bench.refusal, &(struct facts){ .image = "the demo", .stream = "the demo", .settings = bay_settings });
+        }
+        tell_row(text, &nights[i]);
     }
     tell_end(text, nights);
-    free(image);
-    free(page);
-    return refusal == 0 ? 0 : refused(refusal, &(struct facts){ .image = "the demo's image", .stream = "the demo", .settings = times });
+    return 0;
 }
 
 int command_demo(int count, char **words)
 {
     const struct line line = { NULL, 0, NULL, 0 };
     int status = options_take(&line, count, words);
-    struct text text = { NULL, 0, 0 };
-    if (status == 0) {
-        status = show(&text);
+    if (status != 0) {
+        return status;
     }
+    struct text text = { NULL, 0, 0 };
+    struct stock stock = { must_have(POD_IMAGE_BYTES), must_have(POD_BLOCK_BYTES) };
+    uint8_t *image = must_have(POD_IMAGE_BYTES);
+    fill(stock.firmware);
+    memset(stock.page, 0, POD_BLOCK_BYTES);
+    status = show(&text, &stock, image);
     if (status == 0) {
         status = deliver(&(struct output){ .at = text.bytes, .length = text.length, .report = true }, 1);
     }
+    free(stock.firmware);
+    free(stock.page);
+    free(image);
     text_free(&text);
     return status;
 }

@@ -200,6 +200,22 @@ static int open_beside(struct draft *draft)
     return -1;
 }
 
+int can_deliver(const char *path)
+{
+    struct stat about;
+    bool replaces = false;
+    int status = find_target(&drafts[0], path, &about, &replaces);
+    int file = status == 0 ? open_beside(&drafts[0]) : -1;
+    if (status == 0 && file < 0) {
+        status = not_made(path, strerror(errno));
+    }
+    if (file >= 0) {
+        (void)close(file);
+    }
+    drop_drafts();
+    return status;
+}
+
 static int write_draft(struct draft *draft, const struct output *output)
 {
     struct stat about;

@@ -29,6 +29,9 @@ struct output {
     bool report;
 };
 
+/* Whether a file could be made there, before work is done that would be lost. Gives 0 or a status after a message. */
+int can_deliver(const char *path);
+
 /* Leaves all outputs or none: every file is written beside its target and brought to disk, then the standard output is
  * written, and only then are the targets replaced. A signal in between removes what stands beside. At most four. */
 int deliver(const struct output *outputs, size_t count);

@@ -1,8 +1,6 @@
 /* Laying down and recognising Firmware Hub frames. */
 #include "frames.h"
 
-#include "sample.h"
-
 enum { TURNAROUND = 0xF };
 
 size_t frame_lay(const struct frame *frame, uint16_t idle, uint16_t samples[FRAME_MOST_CLOCKS])
@@ -40,12 +38,12 @@ bool watch_begin(struct watched *watched, uint16_t sample)
     return true;
 }
 
-bool watch_clock(struct watched *watched, uint16_t sample, uint32_t answer)
+bool watch_clock(struct watched *watched, const struct seen *seen)
 {
     struct frame *frame = &watched->frame;
     unsigned clock = ++watched->clock;
-    uint8_t host = sample & SAMPLE_LINES;
-    uint8_t device = answer & ANSWER_LINES;
+    uint8_t host = seen->sample & SAMPLE_LINES;
+    uint8_t device = seen->answer & ANSWER_LINES;
     unsigned data = frame->write ? FRAME_CLOCK_WRITTEN : FRAME_CLOCK_READ;
     uint8_t nibble = frame->write ? host : device;
     if (clock == FRAME_CLOCK_SELECT) {
@@ -61,7 +59,7 @@ bool watch_clock(struct watched *watched, uint16_t sample, uint32_t answer)
         frame->byte = (uint8_t)(frame->byte | (unsigned)nibble << 4);
     }
     if (clock == FRAME_CLOCK_SYNC) {
-        watched->answered = (answer & ANSWER_DRIVEN) != 0;
+        watched->answered = (seen->answer & ANSWER_DRIVEN) != 0;
     }
     return clock == (frame->write ? FRAME_WRITE_CLOCKS : FRAME_READ_CLOCKS);
 }

@@ -2,6 +2,8 @@
 #ifndef BAY_FRAMES_H
 #define BAY_FRAMES_H
 
+#include "sample.h"
+
 #include <stdbool.h>
 #include <stddef.h>
 #include <stdint.h>
@@ -53,7 +55,7 @@ struct watched {
 /* Whether a sample with a low frame line begins a frame. */
 bool watch_begin(struct watched *watched, uint16_t sample);
 
-/* Takes one further clock with the device's answer to it; says whether the frame is then at its end. */
-bool watch_clock(struct watched *watched, uint16_t sample, uint32_t answer);
+/* Takes one further clock; says whether the frame is then at its end. */
+bool watch_clock(struct watched *watched, const struct seen *seen);
 
 #endif

@@ -14,7 +14,7 @@
 const char help_bay[] =
     "bay: an M50FW080 flash part on the bench, clock by clock\n"
     "\n"
-    "  bay demo                      the night that cost two boards, in a second\n"
+    "  bay demo                      the night that cost two boards, in seconds\n"
     "  bay run IMAGE STREAM          run a stream of samples on a copy of an image\n"
     "  bay trace IMAGE STREAM        the same with every frame in words, or as a waveform\n"
     "  bay rack FOLDER               twelve bays side by side under one harness\n"
@@ -79,6 +79,7 @@ const char help_rack[] =
     "\n"
     "  --harness FILE                the track (usually FOLDER/harness.track, if there)\n"
     "  --save FOLDER                 write bay01.img to bay12.img as the run left them\n"
+    "  --seconds SECONDS             end a bay that takes so long (usually 120)\n"
     "\n" STATUSES
     "With several bays in trouble it is the lowest number.\n"
     "\n"

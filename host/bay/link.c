@@ -74,13 +74,14 @@ bool link_flush(struct link *link)
 {
     size_t sent = 0;
     while (sent < link->out_end) {
-        if (!wait_client(link, true)) {
-            return false;
-        }
         ssize_t done = send(link->client, link->out + sent, link->out_end - sent, MSG_NOSIGNAL);
-        if (done > 0) {
+        if (done >= 0) {
             sent += (size_t)done;
-        } else if (done < 0 && errno != EINTR && errno != EAGAIN) {
+        } else if (errno == EAGAIN) {
+            if (!wait_client(link, true)) {
+                return false;
+            }
+        } else if (errno != EINTR) {
             return end(link, "the client went away");
         }
     }

@@ -19,7 +19,7 @@
 #include <sys/wait.h>
 #include <unistd.h>
 
-enum { BAYS = 12, SECONDS_FOR_A_BAY = 120 };
+enum { BAYS = 12, USUAL_SECONDS = 120, MOST_SECONDS = 3600 };
 
 /* What a bay's process hands back through its pipe: small enough to arrive in one piece. */
 struct outcome {
@@ -34,10 +34,12 @@ _Static_assert(sizeof(struct outcome) <= _POSIX_PIPE_BUF * 4, "an outcome must f
 struct rack {
     const char *folder;
     const char *save;
+    uint32_t seconds;
     struct track track;
 };
 
 struct bay {
+    unsigned number;
     pid_t process;
     int pipe;
     bool done;
@@ -99,20 +101,20 @@ static void run_bay(const struct rack *rack, unsigned number, struct outcome *ou
     load_free(&load);
 }
 
-/* The life of a bay's process. */
-static _Noreturn void bay_process(const struct rack *rack, unsigned number, int to)
+/* The life of a bay's process, which has the writing end of the pipe. */
+static _Noreturn void bay_process(const struct rack *rack, struct bay *bay)
 {
-    static struct outcome outcome;
+    struct outcome *outcome = &bay->outcome;
     char speaker[32];
-    int length = snprintf(speaker, sizeof speaker, "bay rack: bay %u", number);
+    int length = snprintf(speaker, sizeof speaker, "bay rack: bay %u", bay->number);
     trouble_speaker(length > 0 ? speaker : "bay rack");
-    trouble_into(outcome.words, sizeof outcome.words);
+    trouble_into(outcome->words, sizeof outcome->words);
     (void)signal(SIGINT, SIG_DFL);
     (void)signal(SIGTERM, SIG_DFL);
     (void)signal(SIGHUP, SIG_DFL);
-    (void)alarm(SECONDS_FOR_A_BAY);
-    run_bay(rack, number, &outcome);
-    _exit(write(to, &outcome, sizeof outcome) == (ssize_t)sizeof outcome ? 0 : 1);
+    (void)alarm(rack->seconds);
+    run_bay(rack, bay->number, outcome);
+    _exit(write(bay->pipe, outcome, sizeof *outcome) == (ssize_t)sizeof *outcome ? 0 : 1);
 }
 
 static int no_process(void)
@@ -124,7 +126,7 @@ static int no_process(void)
                    strerror(errno));
 }
 
-static int start_bay(const struct rack *rack, unsigned number, struct bay *bay)
+static int start_bay(const struct rack *rack, struct bay *bay)
 {
     int ends[2];
     if (pipe(ends) != 0) {
@@ -133,7 +135,8 @@ static int start_bay(const struct rack *rack, unsigned number, struct bay *bay)
     bay->process = fork();
     if (bay->process == 0) {
         (void)close(ends[0]);
-        bay_process(rack, number, ends[1]);
+        bay->pipe = ends[1];
+        bay_process(rack, bay);
     }
     (void)close(ends[1]);
     bay->pipe = ends[0];
@@ -141,7 +144,7 @@ static int start_bay(const struct rack *rack, unsigned number, struct bay *bay)
 }
 
 /* Takes what the bay's process left and sees it off. */
-static void collect(struct bay *bay, unsigned number)
+static void collect(struct bay *bay)
 {
     ssize_t got = read(bay->pipe, &bay->outcome, sizeof bay->outcome);
     int how = 0;
@@ -155,35 +158,36 @@ static void collect(struct bay *bay, unsigned number)
     bay->outcome.status = TROUBLE_SOFTWARE;
     int length = snprintf(bay->outcome.words, sizeof bay->outcome.words,
                           "bay rack: bay %u ended before it was done\n"
-                          "  expected  an outcome within %d seconds\n"
-                          "  found     signal %d\n"
+                          "  expected  an outcome in good time\n"
+                          "  found     %s, signal %d\n"
                           "  do        look at this bay's files; the other bays are not touched by it\n",
-                          number, SECONDS_FOR_A_BAY, WIFSIGNALED(how) ? WTERMSIG(how) : 0);
+                          bay->number, WIFSIGNALED(how) && WTERMSIG(how) == SIGALRM ? "its time over" : "none",
+                          WIFSIGNALED(how) ? WTERMSIG(how) : 0);
     if (length < 0) {
         bay->outcome.words[0] = '\0';
     }
 }
 
 /* The progress line: on a terminal it is written over and over, elsewhere each bay has a line. */
-static void tell_progress(unsigned number, unsigned done, bool terminal)
+static void tell_progress(const struct bay *bay, unsigned home)
 {
     char line[64];
-    int length = terminal ? snprintf(line, sizeof line, "\r%u of %d bays done", done, BAYS)
-                          : snprintf(line, sizeof line, "bay %u done, %u of %d\n", number, done, BAYS);
-    if (length > 0 && write(STDERR_FILENO, line, (size_t)length) < 0) {
-        return;
+    int length = 0;
+    if (isatty(STDERR_FILENO) == 1) {
+        length = snprintf(line, sizeof line, "\r%u of %d bays home%s", home, BAYS, home == BAYS ? "\n" : "");
+    } else {
+        length = snprintf(line, sizeof line, "bay %u is home, %u of %d\n", bay->number, home, BAYS);
     }
-    if (terminal && done == BAYS && write(STDERR_FILENO, "\n", 1) < 0) {
-        return;
+    if (length > 0 && write(STDERR_FILENO, line, (size_t)length) < 0) {
+        return; /* progress is not worth an error */
     }
 }
 
 /* Waits until every bay has come home, or a signal says to end. */
 static void wait_for_bays(struct bay *bays)
 {
-    bool terminal = isatty(STDERR_FILENO) == 1;
-    unsigned done = 0;
-    while (done < BAYS && ended_by == 0) {
+    unsigned home = 0;
+    while (home < BAYS && ended_by == 0) {
         struct pollfd ready[BAYS];
         for (unsigned i = 0; i < BAYS; i++) {
             ready[i] = (struct pollfd){ .fd = bays[i].done ? -1 : bays[i].pipe, .events = POLLIN };
@@ -193,8 +197,8 @@ static void wait_for_bays(struct bay *bays)
         }
         for (unsigned i = 0; i < BAYS; i++) {
             if (!bays[i].done && ready[i].revents != 0) {
-                collect(&bays[i], i + 1);
-                tell_progress(i + 1, ++done, terminal);
+                collect(&bays[i]);
+                tell_progress(&bays[i], ++home);
             }
         }
     }
@@ -206,7 +210,7 @@ static void end_bays(struct bay *bays)
     for (unsigned i = 0; i < BAYS; i++) {
         if (!bays[i].done && bays[i].process > 0) {
             (void)kill(bays[i].process, SIGTERM);
-            collect(&bays[i], i + 1);
+            collect(&bays[i]);
         }
     }
 }
@@ -279,8 +283,9 @@ static int run_rack(const struct rack *rack)
     (void)sigaction(SIGHUP, &act, NULL);
     int status = 0;
     for (unsigned i = 0; i < BAYS && status == 0; i++) {
+        bays[i].number = i + 1;
         bays[i].pipe = -1;
-        status = start_bay(rack, i + 1, &bays[i]);
+        status = start_bay(rack, &bays[i]);
     }
     if (status == 0) {
         wait_for_bays(bays);
@@ -303,12 +308,20 @@ static int run_rack(const struct rack *rack)
 
 int command_rack(int count, char **words)
 {
-    struct rack rack = { .folder = NULL };
+    struct rack rack = { .seconds = USUAL_SECONDS };
     const char *harness = NULL;
-    const struct option options[] = { { "--harness", &harness, NULL }, { "--save", &rack.save, NULL } };
+    const char *seconds = NULL;
+    const struct option options[] = {
+        { "--harness", &harness, NULL },
+        { "--save", &rack.save, NULL },
+        { "--seconds", &seconds, NULL },
+    };
     const struct place places[] = { { "FOLDER", &rack.folder } };
-    const struct line line = { options, 2, places, 1 };
+    const struct line line = { options, sizeof options / sizeof options[0], places, 1 };
     int status = options_take(&line, count, words);
+    if (status == 0 && seconds != NULL) {
+        status = number_within("--seconds", seconds, (struct bounds){ 1, MOST_SECONDS }, &rack.seconds);
+    }
     if (status == 0) {
         status = check_folder(rack.folder);
     }

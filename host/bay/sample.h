@@ -24,6 +24,12 @@ enum {
 /* an answer byte: bit 4 set where the device drives, with the nibble below it */
 enum { ANSWER_DRIVEN = 0x10, ANSWER_LINES = 0x0F };
 
+/* One clock as it can be seen from outside: the sample, and the answer to it. */
+struct seen {
+    uint16_t sample;
+    uint32_t answer;
+};
+
 enum { CLOCKS_IN_MICROSECOND = 33 };
 
 static inline uint16_t sample_at(const uint8_t *stream, size_t index)

@@ -164,19 +164,29 @@ static bool write_byte(struct serprog *s, const uint8_t *p)
     return give_byte(s, lay_by(s, OP_WRITE_BYTE, p, 4, 0) != NULL ? ACK : NAK);
 }
 
+/* Takes bytes that there is no room for. */
+static bool pass_over(struct link *link, uint32_t length)
+{
+    uint8_t byte = 0;
+    bool holds = true;
+    for (uint32_t i = 0; i < length && holds; i++) {
+        holds = link_take(link, &byte, 1);
+    }
+    return holds;
+}
+
 static bool write_bytes(struct serprog *s, const uint8_t *p)
 {
     uint32_t length = number24(p);
-    uint8_t spilled[SERPROG_WRITE_MOST];
     if (length == 0 || length > SERPROG_WRITE_MOST) {
         s->link->why = "the client wrote more bytes at once than it was told";
         return false;
     }
     uint8_t *data = lay_by(s, OP_WRITE_BYTES, p, 6, length);
-    if (!link_take(s->link, data != NULL ? data : spilled, length)) {
-        return false;
+    if (data == NULL) {
+        return pass_over(s->link, length) && give_byte(s, NAK);
     }
-    return give_byte(s, data != NULL ? ACK : NAK);
+    return link_take(s->link, data, length) && give_byte(s, ACK);
 }
 
 static bool delay(struct serprog *s, const uint8_t *p)

@@ -33,7 +33,8 @@ enum {
     MOST_REST = 1000000
 };
 
-/* The server as it was asked for. saved: the image as it stands in the file. */
+/* The server as it was asked for. served: clients so far. until: when its time is over. saved: the image as it stands
+ * in the file. stop: readable once a signal has come. */
 struct server {
     const char *image;
     struct settings settings;
@@ -42,6 +43,8 @@ struct server {
     uint32_t idle;
     uint32_t seconds;
     uint32_t rest;
+    uint32_t served;
+    int64_t until;
     struct bench bench;
     uint8_t *saved;
     int listener;
@@ -136,7 +139,7 @@ static int save(struct server *server)
 }
 
 /* One client, from its first byte to its last. */
-static const char *serve_client(struct server *server, int client, uint32_t number, int64_t until)
+static const char *serve_client(struct server *server, int client)
 {
     static struct link link;
     static struct serprog serprog;
@@ -145,36 +148,37 @@ static const char *serve_client(struct server *server, int client, uint32_t numb
     link.client = client;
     link.stop = server->stop;
     link.idle = (int64_t)server->idle * 1000;
-    link.until = until;
+    link.until = server->until;
     serprog.link = &link;
     serprog.bench = &server->bench;
     serprog.rest = (uint64_t)server->rest * CLOCKS_IN_MICROSECOND;
     if (fcntl(client, F_SETFL, O_NONBLOCK) != 0 || setsockopt(client, IPPROTO_TCP, TCP_NODELAY, &yes, sizeof yes) != 0) {
         link.why = "the line broke";
     } else {
-        say("client %u begins\n", (unsigned)number);
+        say("client %u begins\n", (unsigned)server->served);
         serprog_serve(&serprog);
     }
     (void)close(client);
     bench_settle(&server->bench);
     const char *why = link.why != NULL ? link.why : "the library refused";
-    say("client %u ends after %s requests: %s; status %s\n", (unsigned)number, counted(serprog.requests).text, why,
-        brief_status(pod_status(server->bench.device)).text);
+    say("client %u ends after %s requests: %s; status %s\n", (unsigned)server->served, counted(serprog.requests).text,
+        why, brief_status(pod_status(server->bench.device)).text);
     return why;
 }
 
 /* Clients one after another until their number or the time is over, or a signal comes. */
 static int serve_clients(struct server *server)
 {
-    int64_t until = milliseconds() + (int64_t)server->seconds * 1000;
     const char *why = NULL;
-    for (uint32_t number = 1; number <= server->clients && why == NULL && server->bench.refusal == 0;) {
-        why = wait_for(&(struct wait){ .file = server->listener, .stop = server->stop, .until = until });
+    server->until = milliseconds() + (int64_t)server->seconds * 1000;
+    while (server->served < server->clients && why == NULL && server->bench.refusal == 0) {
+        why = wait_for(&(struct wait){ .file = server->listener, .stop = server->stop, .until = server->until });
         int client = why == NULL ? accept(server->listener, NULL, NULL) : -1;
         if (client < 0) {
             continue; /* a client that left before it was let in counts for nothing */
         }
-        const char *end = serve_client(server, client, number++, until);
+        server->served++;
+        const char *end = serve_client(server, client);
         why = end == link_ended || end == link_over ? end : NULL;
         (void)save(server); /* if it cannot be saved now, it is tried again at the end */
     }
@@ -211,6 +215,9 @@ static int start(struct server *server)
 {
     struct bytes image;
     int status = file_read(server->image, POD_IMAGE_BYTES, &image);
+    if (status == 0) {
+        status = can_deliver(server->image);
+    }
     if (status == 0) {
         status = power_up(server, &image);
     }

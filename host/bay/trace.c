@@ -27,19 +27,18 @@ struct tracer {
 /* One clock as it happened. */
 struct happened {
     size_t clock;
-    uint16_t sample;
-    uint32_t answer;
+    struct seen seen;
     uint32_t before;
     uint32_t after;
 };
 
 static void tell_pins(struct tracer *tracer, const struct happened *now)
 {
-    struct brief pins = brief_pins(now->sample, now->clock == 0 ? NULL : &tracer->last);
+    struct brief pins = brief_pins(now->seen.sample, now->clock == 0 ? NULL : &tracer->last);
     if (pins.text[0] != '\0') {
         text_add(&tracer->text, "clock %6zu  pins   %s\n", now->clock, pins.text);
     }
-    tracer->last = now->sample;
+    tracer->last = now->seen.sample;
 }
 
 /* What the status tells of the write. */
@@ -101,9 +100,11 @@ static void tell_broken_frame(struct tracer *tracer, const char *cause)
 static bool follow_bus(struct tracer *tracer, const struct happened *now)
 {
     struct watched *watched = &tracer->watched;
-    bool reset = !sample_has(now->sample, SAMPLE_RP) || !sample_has(now->sample, SAMPLE_INIT);
-    bool low = !sample_has(now->sample, SAMPLE_FRAME);
-    if (watched->clock != 0 && (reset || low)) {
+    uint16_t sample = now->seen.sample;
+    bool reset = !sample_has(sample, SAMPLE_RP) || !sample_has(sample, SAMPLE_INIT);
+    bool low = !sample_has(sample, SAMPLE_FRAME);
+    bool breaks = watched->clock != 0 && (reset || low);
+    if (breaks) {
         tell_broken_frame(tracer, reset ? "reset" : "aborted");
     }
     if (reset) {
@@ -111,15 +112,15 @@ static bool follow_bus(struct tracer *tracer, const struct happened *now)
     }
     if (low) {
         tracer->began = now->clock;
-        if (!watch_begin(watched, now->sample)) {
-            text_add(&tracer->text, "clock %6zu  start  %Xh begins no frame\n", now->clock, now->sample & SAMPLE_LINES);
+        if (!watch_begin(watched, sample) && !breaks) {
+            text_add(&tracer->text, "clock %6zu  start  %Xh begins no frame\n", now->clock, sample & SAMPLE_LINES);
         }
         return false;
     }
     if (watched->clock == 0) {
         return false;
     }
-    bool whole = watch_clock(watched, now->sample, now->answer);
+    bool whole = watch_clock(watched, &now->seen);
     bool acts = watched->frame.write && watched->clock == FRAME_CLOCK_ACT;
     if (acts) {
         tracer->acted.seen = true;
@@ -150,19 +151,20 @@ static int step_through(struct load *load, const struct pod_report *report, stru
     struct pod_device device = up.device;
     uint32_t marks = 0;
     for (size_t clock = 0; clock < report->samples; clock++) {
-        struct happened now = { .clock = clock, .sample = sample_at(load->samples.at, clock), .before = pod_status(device) };
-        struct pod_clocked clocked = pod_clock(&device, load->before.at, load->before.length, now.sample);
+        struct happened now = { .clock = clock, .before = pod_status(device) };
+        now.seen.sample = sample_at(load->samples.at, clock);
+        struct pod_clocked clocked = pod_clock(&device, load->before.at, load->before.length, now.seen.sample);
         if (up.number != 0 || clocked.number != 0) {
             return refused(up.number != 0 ? up.number : clocked.number, &(struct facts){ .image = load->image });
         }
-        now.answer = clocked.answer;
+        now.seen.answer = clocked.answer;
         now.after = pod_status(device);
         follow(tracer, &now);
         if (pod_marks(device) != marks) {
             marks = pod_marks(device);
             text_add(&tracer->text, "clock %6zu  spoiled blocks: %s\n", clock, brief_blocks(marks).text);
         }
-        vcd_add(vcd, &(struct vcd_clock){ now.sample, now.answer, now.after });
+        vcd_add(vcd, &now.seen, now.after);
     }
     if (tracer->watched.clock != 0) {
         tell_frame(tracer, "cut off by the end of the stream");

@@ -1,7 +1,6 @@
 /* Writing the waveform. Every wire is one bit wide, since sigrok passes over wider ones. */
 #include "vcd.h"
 
-#include "sample.h"
 #include "words.h"
 
 #include <stdbool.h>
@@ -66,18 +65,22 @@ static void set(struct vcd *vcd, unsigned wire, char sign)
     }
 }
 
-void vcd_add(struct vcd *vcd, const struct vcd_clock *now)
+void vcd_add(struct vcd *vcd, const struct seen *seen, uint32_t status)
 {
-    unsigned sample = now->sample;
-    bool driven = (now->answer & ANSWER_DRIVEN) != 0;
+    unsigned sample = seen->sample;
+    bool driven = (seen->answer & ANSWER_DRIVEN) != 0;
     text_add(&vcd->text, "#%llu\n", start_of(vcd->clock));
     set(vcd, CLK, '0');
     set(vcd, FRAME, level(sample, 4));
     for (unsigned line = 0; line < 4; line++) {
         set(vcd, HOST + line, level(sample, line));
-        set(vcd, DEVICE + line, driven ? level(now->answer, line) : 'z');
+        char sign = 'z';
+        if (driven) {
+            sign = level(seen->answer, line);
+        }
+        set(vcd, DEVICE + line, sign);
     }
-    set(vcd, DRIVES, driven ? '1' : '0');
+    set(vcd, DRIVES, level(seen->answer, 4));
     set(vcd, RP, level(sample, 5));
     set(vcd, INIT, level(sample, 6));
     set(vcd, TBL, level(sample, 7));
@@ -85,7 +88,7 @@ void vcd_add(struct vcd *vcd, const struct vcd_clock *now)
     set(vcd, VOLTAGE, level(sample, SAMPLE_VOLTAGE_AT));
     set(vcd, VOLTAGE + 1, level(sample, SAMPLE_VOLTAGE_AT + 1));
     for (unsigned bit = STATUS_LOW; bit <= STATUS_HIGH; bit++) {
-        set(vcd, STATUS + STATUS_HIGH - bit, level(now->status, bit));
+        set(vcd, STATUS + STATUS_HIGH - bit, level(status, bit));
     }
     text_add(&vcd->text, "#%llu\n", start_of(vcd->clock) + 15);
     set(vcd, CLK, '1');

@@ -2,6 +2,7 @@
 #ifndef BAY_VCD_H
 #define BAY_VCD_H
 
+#include "sample.h"
 #include "text.h"
 
 #include <stdint.h>
@@ -15,15 +16,10 @@ struct vcd {
     uint64_t clock;
 };
 
-/* What is to be seen on one clock: the sample, the answer to it, and the status register after it. */
-struct vcd_clock {
-    uint16_t sample;
-    uint32_t answer;
-    uint32_t status;
-};
-
 void vcd_begin(struct vcd *vcd);
-void vcd_add(struct vcd *vcd, const struct vcd_clock *now);
+
+/* Adds one clock, with the status register as it is after it. */
+void vcd_add(struct vcd *vcd, const struct seen *seen, uint32_t status);
 void vcd_end(struct vcd *vcd);
 
 #endif

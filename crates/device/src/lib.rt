@@ -5,18 +5,12 @@ use record::Controller;
 use record::Device;
 use record::Frame;
 use record::Operation;
-use units::Clocks;
-use units::Micros;
-use units::Times;
-use units::in_clocks;
-use units::times_fit;
+use units::{Clocks, Micros, are_times, in_clocks, times_fit, times_of};
 ghost use mathlib.Core.Path.{_≡_};
-ghost use mathlib.Core.Bool.{true, _&&_};
-ghost use Prim.Native.Nat.{_≤_};
-ghost use Rattle.units.specs.Units.{timesFit};
+ghost use mathlib.Core.Bool.{_&&_};
 ghost use Rattle.device.specs.Status.{conditionOf, conditionBits, statusOf};
 ghost use Rattle.device.specs.Sound.{allBelow, counts, leftFits, stateFits, operationFits, outerFits, apart, inside, innerFits, setupKinds, frameFits, controllerFits, soundOf};
-ghost use Rattle.device.specs.Power.{poweredUp, timesSet};
+ghost use Rattle.device.specs.Power.{refusal, poweredUp, timesSet};
 
 // What the controller is at: the rows of the command table.
 pub enum Condition {
@@ -91,7 +85,6 @@ fn all_below(n: u8, xs: [u8; 16]) -> bool
 
 // Whether a number of clocks is from 1 to the full number of a time.
 fn is_counted(c: Clocks, m: Micros) -> bool
-    requires { ⌜ m .0 ≤ 39062 ⌝ }
     ensures { λ r. ⌜ r ≡ counts c m ⌝ }
 {
     let full = in_clocks(m);
@@ -99,7 +92,6 @@ fn is_counted(c: Clocks, m: Micros) -> bool
 }
 
 fn left_fits(o: Operation) -> bool
-    requires { ⌜ timesFit (o .times) ≡ true ⌝ }
     ensures { λ r. ⌜ r ≡ leftFits o ⌝ }
 {
     let t = o.times;
@@ -116,7 +108,6 @@ fn left_fits(o: Operation) -> bool
 }
 
 fn state_fits(o: Operation) -> bool
-    requires { ⌜ timesFit (o .times) ≡ true ⌝ }
     ensures { λ r. ⌜ r ≡ stateFits o ⌝ }
 {
     if o.state == 0 {
@@ -135,13 +126,13 @@ fn operation_fits(o: Operation) -> bool
     ensures { λ r. ⌜ r ≡ operationFits o ⌝ }
 {
     let t = o.times;
-    if times_fit(t) {
-        return both(
+    both(
+        times_fit(t),
+        both(
             (o.address as usize) < Part::BYTES,
             both(left_fits(o), state_fits(o)),
-        );
-    }
-    false
+        ),
+    )
 }
 
 fn outer_fits(o: Operation) -> bool
@@ -266,19 +257,9 @@ pub struct Powered {
     pub device: Device,
 }
 
-fn times_of(program: u32, slice: u32, pause: u32) -> Times
-    ensures { λ r. ⌜ r ≡ Rattle.units.specs.Units.times program slice pause ⌝ }
-{
-    Times {
-        program: Micros(program),
-        slice: Micros(slice),
-        pause: Micros(pause),
-    }
-}
-
 // A refusal, with the device of straps 0 and times 10, 3,906, 30.
 fn refused(number: u32) -> Powered
-    ensures { λ r. ⌜ r ≡ Rattle.device.specs.Power.refusal number ⌝ }
+    ensures { λ r. ⌜ r ≡ refusal number ⌝ }
 {
     Powered {
         number,
@@ -292,11 +273,10 @@ pub fn power_up(straps: u32, program: u32, slice: u32, pause: u32) -> Powered
     if 15 < straps {
         return refused(3);
     }
-    let times = times_of(program, slice, pause);
-    if times_fit(times) {
+    if are_times(program, slice, pause) {
         return Powered {
             number: 0,
-            device: Part::fresh(straps as u8, times),
+            device: Part::fresh(straps as u8, times_of(program, slice, pause)),
         };
     }
     refused(4)
@@ -306,8 +286,8 @@ pub fn set_times(device: Device, program: u32, slice: u32, pause: u32) -> Powere
     ensures { λ r. ⌜ r ≡ timesSet device program slice pause ⌝ }
 {
     if sound(device) {
-        let times = times_of(program, slice, pause);
-        if times_fit(times) {
+        if are_times(program, slice, pause) {
+            let times = times_of(program, slice, pause);
             let mut next = device;
             next.times = times;
             return Powered {

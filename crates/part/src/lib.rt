@@ -7,8 +7,8 @@ use units::Clocks;
 use units::Micros;
 use units::Times;
 ghost use mathlib.Core.Path.{_≡_};
-ghost use Rattle.record.specs.Record.{blockOf};
-ghost use Rattle.part.specs.Fresh.{freshOf};
+ghost use Rattle.record.specs.Record.{absent, blockOf};
+ghost use Rattle.part.specs.Fresh.{resting, freshOf};
 ghost use Rattle.part.specs.Registers.{registerAt};
 
 // The M50FW080.
@@ -27,16 +27,16 @@ impl Part {
 
     pub const TOP_BLOCK: u32 = 15;
 
-    // A device as it comes up: idle, locked, reading the array, with no operation and no marks.
-    pub fn fresh(straps: u8, times: Times) -> Device
-        ensures { λ r. ⌜ r ≡ freshOf straps times ⌝ }
+    // No operation.
+    pub fn absent() -> Operation
+        ensures { λ r. ⌜ r ≡ absent ⌝ }
     {
         let none = Times {
             program: Micros(0),
             slice: Micros(0),
             pause: Micros(0),
         };
-        let absent = Operation {
+        Operation {
             kind: 0,
             state: 0,
             data: 0,
@@ -45,7 +45,29 @@ impl Part {
             left: Clocks(0),
             pause: Clocks(0),
             times: none,
-        };
+        }
+    }
+
+    // A controller at rest: reading the array, no error bits, no setup, no operation.
+    pub fn resting(marks: u16) -> Controller
+        ensures { λ r. ⌜ r ≡ resting marks ⌝ }
+    {
+        let none = Part::absent();
+        Controller {
+            mode: 0,
+            errors: 0,
+            setup: 0,
+            marks,
+            outer: none,
+            inner: none,
+        }
+    }
+
+    // A device as it comes up: idle, locked, its controller at rest, no marks.
+    pub fn fresh(straps: u8, times: Times) -> Device
+        ensures { λ r. ⌜ r ≡ freshOf straps times ⌝ }
+    {
+        let controller = Part::resting(0);
         Device {
             straps,
             locks: [1; 16],
@@ -56,14 +78,7 @@ impl Part {
                 byte: 0,
                 address: 0,
             },
-            controller: Controller {
-                mode: 0,
-                errors: 0,
-                setup: 0,
-                marks: 0,
-                outer: absent,
-                inner: absent,
-            },
+            controller,
         }
     }
 }

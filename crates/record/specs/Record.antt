@@ -4,6 +4,7 @@ use Prim.Native.Nat.{ℕ, _/_}
 use mathlib.Core.Bool.{Bool, _&&_}
 use mathlib.Core.List.{List}
 use lib.Dec.{eqb}
+use Rattle.units.specs.declared.Clocks.{Clocks}
 use Rattle.units.specs.declared.Times.{Times}
 use Rattle.units.specs.Units.{clocks, times}
 use Rattle.record.specs.declared.Frame.{Frame}
@@ -57,6 +58,34 @@ operation kind state byte address slices left pause ts =
       left = clocks left;
       pause = clocks pause;
       times = ts;
+    }
+
+-- the same operation with another state and pause
+abbrev pub withPause : Operation → ℕ → Clocks → Operation
+withPause o state pause =
+    record {
+      kind = o .kind;
+      state = state;
+      «data» = o .«data»;
+      address = o .address;
+      slices = o .slices;
+      left = o .left;
+      pause = pause;
+      times = o .times;
+    }
+
+-- the same operation with another count
+abbrev pub withLeft : Operation → ℕ → Clocks → Operation
+withLeft o slices left =
+    record {
+      kind = o .kind;
+      state = o .state;
+      «data» = o .«data»;
+      address = o .address;
+      slices = slices;
+      left = left;
+      pause = o .pause;
+      times = o .times;
     }
 
 abbrev pub absent : Operation

@@ -4,7 +4,6 @@ use mathlib.Core.Bool.{true}
 use Prim.Native.Nat.{ℕ, _≤_}
 use borrow.Author.Tests.{leb-true}
 use Rattle.laws.proofs.All.{holds}
-use Rattle.units.specs.declared.Micros.{Micros}
 use Rattle.units.specs.declared.Times.{Times}
 use Rattle.units.specs.Units.{within, timesFit}
 
@@ -16,12 +15,12 @@ pub record Ranges (t : Times) : Type 0 where
   pub pause-least : 1 ≤ t .pause .0
   pub pause-most : t .pause .0 ≤ 30
 
-module _ (m : Micros) (most : ℕ) (e : within m most ≡ true) where
-  least : 1 ≤ m .0
+module _ (n most : ℕ) (e : within n most ≡ true) where
+  least : 1 ≤ n
   unfolding within
   least = leb-true _ _ (holds _ 0 e)
 
-  upmost : m .0 ≤ most
+  upmost : n ≤ most
   unfolding within
   upmost = leb-true _ _ (holds _ 1 e)
 
@@ -29,10 +28,10 @@ pub ranges : (t : Times) → timesFit t ≡ true → Ranges t
 unfolding timesFit
 ranges t e =
     record {
-      program-least = least (t .program) 200 (holds _ 0 e);
-      program-most = upmost (t .program) 200 (holds _ 0 e);
-      slice-least = least (t .slice) 39062 (holds _ 1 e);
-      slice-most = upmost (t .slice) 39062 (holds _ 1 e);
-      pause-least = least (t .pause) 30 (holds _ 2 e);
-      pause-most = upmost (t .pause) 30 (holds _ 2 e);
+      program-least = least (t .program .0) 200 (holds _ 0 e);
+      program-most = upmost (t .program .0) 200 (holds _ 0 e);
+      slice-least = least (t .slice .0) 39062 (holds _ 1 e);
+      slice-most = upmost (t .slice .0) 39062 (holds _ 1 e);
+      pause-least = least (t .pause .0) 30 (holds _ 2 e);
+      pause-most = upmost (t .pause .0) 30 (holds _ 2 e);
     }

@@ -14,12 +14,12 @@ unfoldable pub inClocks : Micros → Clocks
 inClocks m = record { 0 = m .0 * 33 }
 
 -- a time is at least 1 and at most `most`
-unfoldable pub within : Micros → ℕ → Bool
-within m most = all (leb 1 (m .0) ∷ leb (m .0) most ∷ [])
+unfoldable pub within : ℕ → ℕ → Bool
+within n most = all (leb 1 n ∷ leb n most ∷ [])
 
 -- program 1 to 200, erase slice 1 to 39,062, pause 1 to 30
 unfoldable pub timesFit : Times → Bool
-timesFit t = all (within (t .program) 200 ∷ within (t .slice) 39062 ∷ within (t .pause) 30 ∷ [])
+timesFit t = all (within (t .program .0) 200 ∷ within (t .slice .0) 39062 ∷ within (t .pause .0) 30 ∷ [])
 
 abbrev pub micros : ℕ → Micros
 micros n = record { 0 = n }

@@ -1,10 +1,11 @@
 // Microseconds and clocks: two types, one conversion between them, and the ranges of the three times.
 ghost use mathlib.Core.Path.{_≡_};
-ghost use Prim.Native.Nat.{_≤_};
-ghost use Rattle.units.specs.Units.{inClocks, within, timesFit};
+ghost use mathlib.Core.Bool.{true};
+ghost use Rattle.units.specs.Units.{times, inClocks, within, timesFit};
 
+// Sixteen bits hold the longest time, 39,062, and the clocks of any sixteen bits fit in thirty-two.
 #[repr(C)]
-pub struct Micros(pub u32);
+pub struct Micros(pub u16);
 
 #[repr(C)]
 pub struct Clocks(pub u32);
@@ -17,28 +18,23 @@ pub struct Times {
     pub pause: Micros,
 }
 
-// The only place where microseconds become clocks. The longest time is 39,062.
+// The only place where microseconds become clocks.
 pub fn in_clocks(m: Micros) -> Clocks
-    requires { ⌜ m .0 ≤ 39062 ⌝ }
     ensures { λ r. ⌜ r ≡ inClocks m ⌝ }
 {
-    Clocks(m.0 * 33)
+    Clocks((m.0 as u32) * 33)
 }
 
-// Whether a time is from 1 to the most that its range allows.
-pub fn is_within(m: Micros, most: u32) -> bool
-    ensures { λ r. ⌜ r ≡ within m most ⌝ }
+fn is_within(n: u32, most: u32) -> bool
+    ensures { λ r. ⌜ r ≡ within n most ⌝ }
 {
-    1 <= m.0 && m.0 <= most
+    1 <= n && n <= most
 }
 
-// Whether all three times are in their ranges.
-pub fn times_fit(t: Times) -> bool
-    ensures { λ r. ⌜ r ≡ timesFit t ⌝ }
+// Whether three numbers of microseconds, as a host hands them in, are in their ranges.
+pub fn are_times(program: u32, slice: u32, pause: u32) -> bool
+    ensures { λ r. ⌜ r ≡ timesFit (times program slice pause) ⌝ }
 {
-    let program = t.program;
-    let slice = t.slice;
-    let pause = t.pause;
     if is_within(program, 200) {
         if is_within(slice, 39062) {
             return is_within(pause, 30);
@@ -46,4 +42,23 @@ pub fn times_fit(t: Times) -> bool
         return false;
     }
     false
+}
+
+// Whether all three times are in their ranges.
+pub fn times_fit(t: Times) -> bool
+    ensures { λ r. ⌜ r ≡ timesFit t ⌝ }
+{
+    are_times(t.program.0 as u32, t.slice.0 as u32, t.pause.0 as u32)
+}
+
+// Three numbers in their ranges as times.
+pub fn times_of(program: u32, slice: u32, pause: u32) -> Times
+    requires { ⌜ timesFit (times program slice pause) ≡ true ⌝ }
+    ensures { λ r. ⌜ r ≡ times program slice pause ⌝ }
+{
+    Times {
+        program: Micros(program as u16),
+        slice: Micros(slice as u16),
+        pause: Micros(pause as u16),
+    }
 }

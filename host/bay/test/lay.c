@@ -49,29 +49,31 @@ static void put_frame(struct script *s, struct frame frame)
     }
 }
 
-static bool set_pin(struct script *s, const char *name, const char *value)
+static bool set_pin(struct script *s, const char *const *words)
 {
     static const struct {
         const char *name;
         unsigned pin;
     } pins[] = { { "rp", SAMPLE_RP }, { "init", SAMPLE_INIT }, { "tbl", SAMPLE_TBL }, { "wp", SAMPLE_WP } };
     for (size_t i = 0; i < sizeof pins / sizeof pins[0]; i++) {
-        if (strcmp(name, pins[i].name) == 0) {
-            s->idle = sample_set(s->idle, pins[i].pin, value[0] == 'h' ? pins[i].pin : 0);
+        if (strcmp(words[0], pins[i].name) == 0) {
+            s->idle = sample_set(s->idle, pins[i].pin, words[1][0] == 'h' ? pins[i].pin : 0);
             return true;
         }
     }
     return false;
 }
 
-static bool obey(struct script *s, const char *verb, const char *first, const char *second)
+/* One line: a verb and two words behind it. */
+static bool obey(struct script *s, const char *const *words)
 {
-    unsigned long hex = strtoul(first, NULL, 16);
-    unsigned long number = strtoul(first, NULL, 10);
+    const char *verb = words[0];
+    unsigned long hex = strtoul(words[1], NULL, 16);
+    unsigned long number = strtoul(words[1], NULL, 10);
     if (strcmp(verb, "write") == 0) {
         put_frame(s, (struct frame){ .write = true,
                                      .address = (uint32_t)hex,
-                                     .byte = (uint8_t)strtoul(second, NULL, 16) });
+                                     .byte = (uint8_t)strtoul(words[2], NULL, 16) });
     } else if (strcmp(verb, "read") == 0) {
         put_frame(s, (struct frame){ .address = (uint32_t)hex });
     } else if (strcmp(verb, "wait") == 0) {
@@ -91,7 +93,7 @@ static bool obey(struct script *s, const char *verb, const char *first, const ch
     } else if (strcmp(verb, "inputs") == 0) {
         s->idle = sample_set(s->idle, 0xF800, (unsigned)number << SAMPLE_INPUTS_AT);
     } else {
-        return set_pin(s, verb, first);
+        return set_pin(s, words);
     }
     return true;
 }
@@ -103,11 +105,14 @@ int main(void)
     while (fgets(line, sizeof line, stdin) != NULL) {
         line[strcspn(line, "#\n")] = '\0';
         char *rest = NULL;
-        const char *verb = strtok_r(line, " \t", &rest);
-        const char *first = strtok_r(NULL, " \t", &rest);
-        const char *second = strtok_r(NULL, " \t", &rest);
-        if (verb != NULL && (first == NULL || !obey(&script, verb, first, second == NULL ? "0" : second))) {
-            (void)fprintf(stderr, "lay: %s is not a line that is known\n", verb);
+        const char *words[3] = { strtok_r(line, " \t", &rest) };
+        words[1] = words[0] == NULL ? NULL : strtok_r(NULL, " \t", &rest);
+        words[2] = words[1] == NULL ? NULL : strtok_r(NULL, " \t", &rest);
+        if (words[2] == NULL) {
+            words[2] = "0";
+        }
+        if (words[0] != NULL && (words[1] == NULL || !obey(&script, words))) {
+            (void)fprintf(stderr, "lay: %s is not a line that is known\n", words[0]);
             return 64;
         }
     }

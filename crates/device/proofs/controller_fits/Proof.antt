@@ -17,4 +17,4 @@ controller-fits-spec =
     (λ c κs. search needs)
     (λ c κs. search needs)
     (λ c κs. search needs)
-    (λ c. cc))
+    (λ c. rw (c .both4 .ensures, c .before .both3 .ensures, c .before .before .both2 .ensures, c .before .before .before .both .ensures, c .before .before .before .before .before .setup-kinds .ensures, c .before .before .before .before .before .before .condition-of .ensures, c .before .before .before .before .before .before .before .inner-fits .ensures, c .before .before .before .before .before .before .before .before .outer-fits .ensures)))

@@ -10,4 +10,4 @@ is-apart-spec =
     (tie.spec
     (λ c κs. search needs)
     (λ c κs. search needs)
-    (λ c. cc))
+    (λ c. rw (c .block-of2 .ensures, c .before .block-of .ensures)))

@@ -11,4 +11,4 @@ is-counted-spec =
     (tie.spec
     (λ c κs. search needs)
     (λ c κs. search needs)
-    (λ c. cc))
+    (λ c. rw (c .both .ensures, c .before .before .before .before .in-clocks .ensures)))

@@ -1,5 +1,4 @@
 use borrow.Author.Needs.{needs}
-use Rattle.laws.proofs.Rules.{cases}
 use Rattle.device.specs.Power.{timesSet}
 use Rattle.device.proofs.set_times.Statement.{statement}
 use Rattle.device.proofs.set_times.Tie as tie
@@ -11,7 +10,7 @@ set-times-spec =
     (tie.spec
     (λ c κs. search needs)
     (λ c κs. search needs)
-    (λ c κs. search needs)
-    (λ c. let t = c .before in let f = rw (t .before .times-of .ensures) at (t .times-fit .ensures) in let w = t .before .before in search (cases, t .before .times-of .ensures, ← f, ← w .before .sound .ensures, w .if1 .taken))
-    (λ c. let t = c .before in let f = rw (t .before .times-of .ensures) at (t .times-fit .ensures) in let w = t .before .before in search (cases, ← f, ← w .before .sound .ensures, w .if1 .taken))
-    (λ c. search (cases, ← c .before .sound .ensures)))
+    (λ c κs. (cc))
+    (λ c. rw (← c .before .before .before .before .sound .ensures, c .before .before .before .if1 .taken, ← c .before .before .are-times .ensures, c .before .if2 .taken, c .times-of .ensures))
+    (λ c. rw (← c .before .before .before .sound .ensures, c .before .before .if1 .taken, ← c .before .are-times .ensures, c .if2 .left))
+    (λ c. rw (← c .before .sound .ensures, c .if1 .left)))

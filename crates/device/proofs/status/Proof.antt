@@ -10,4 +10,4 @@ status-spec =
     (tie.spec
     (λ c κs. search needs)
     (λ c κs. search needs)
-    (λ c. cc))
+    (λ c. rw (c .before .condition-bits .ensures, c .before .before .condition-of .ensures)))

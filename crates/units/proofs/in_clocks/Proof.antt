@@ -10,4 +10,5 @@ in-clocks-spec =
     tie.close
     (tie.spec
     (λ c. search needs)
+    (λ c. search needs)
     (λ c. search cases))

@@ -2,12 +2,12 @@ use borrow.Author.Needs.{needs}
 use Rattle.laws.proofs.Rules.{cases}
 use Rattle.laws.specs.All.{all}
 use Rattle.units.specs.Units.{timesFit}
-use Rattle.units.proofs.times_fit.Statement.{statement}
-use Rattle.units.proofs.times_fit.Tie as tie
+use Rattle.units.proofs.are_times.Statement.{statement}
+use Rattle.units.proofs.are_times.Tie as tie
 
-pub times-fit-spec : {M : Type 1} → statement M
+pub are-times-spec : {M : Type 1} → statement M
 unfolding timesFit all
-times-fit-spec =
+are-times-spec =
     tie.close
     (tie.spec
     (λ c κs. search needs)

@@ -1,0 +1,23 @@
+-- What an effect does to the array. Assumes nothing.
+use Prim.Native.Nat.{ℕ, _+_, _≤_, _<_}
+use mathlib.Core.List.{List, _++_}
+use lib.Bits.{bitAnd}
+use lib.ListN.{getD, set, take, drop, replicate}
+use Rattle.effect.specs.declared.Effect.{Effect}
+use Rattle.effect.specs.declared.Effect.the-variants.{Nothing, Program, Fill}
+
+-- `count` bytes from `start` on become `value`
+abbrev pub filled : List ℕ → ℕ → ℕ → ℕ → List ℕ
+filled d start count value = take start d ++ replicate count value ++ drop (start + count) d
+
+-- an effect lies inside an array of n bytes
+abbrev pub within : Effect → ℕ → Type 0
+within Nothing n = Unit
+within (Program address byte) n = address < n
+within (Fill start count value) n = start + count ≤ n
+
+-- a program stores old AND data
+abbrev pub applied : Effect → List ℕ → List ℕ
+applied Nothing d = d
+applied (Program address byte) d = set d address (bitAnd (getD d address 0) byte)
+applied (Fill start count value) d = filled d start count value

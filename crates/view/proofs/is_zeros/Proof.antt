@@ -1,0 +1,15 @@
+use borrow.Author.Needs.{needs}
+use Rattle.laws.proofs.Rules.{cases}
+use Rattle.laws.specs.All.{all}
+use Rattle.view.specs.Shown.{isZeros}
+use Rattle.view.proofs.is_zeros.Statement.{statement}
+use Rattle.view.proofs.is_zeros.Tie as tie
+
+pub is-zeros-spec : {M : Type 1} → statement M
+unfolding isZeros all
+is-zeros-spec =
+    tie.close
+    (tie.spec
+    (λ c κs. search needs)
+    (λ c. search (cases, c .all-zero .ensures))
+    (λ c. search cases))

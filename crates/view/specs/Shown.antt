@@ -1,0 +1,48 @@
+-- Document 01, "Block view": a block's part of the image, or as much of the lent page of zeros where the block is
+-- read-locked, as bytes and as numbers. Assumes nothing.
+use Prim.Native.Nat.{ℕ, _*_}
+use mathlib.Core.Bool.{Bool, true, cond, _&&_}
+use mathlib.Core.List.{List, [], _∷_}
+use lib.Bits.{bitAnd}
+use lib.Dec.{eqb, ltb}
+use lib.ListN.{length, getD, take, drop}
+use Rattle.laws.specs.All.{all}
+use Rattle.record.specs.declared.Device.{Device}
+use Rattle.device.specs.Sound.{soundOf}
+use Rattle.view.specs.declared.Part.{Part}
+
+abbrev pub allZero : List ℕ → Bool
+allZero [] = true
+allZero (x ∷ xs) = eqb x 0 && allZero xs
+
+-- the page is 65,536 bytes of 00h
+unfoldable pub isZeros : List ℕ → Bool
+isZeros page = all (eqb (length page) 65536 ∷ allZero page ∷ [])
+
+-- a sound device, a whole image, a block of the sixteen, and a page of zeros
+unfoldable pub canShow : Device → List ℕ → List ℕ → ℕ → Bool
+canShow d image page block = all (soundOf d ∷ eqb (length image) 1048576 ∷ ltb block 16 ∷ isZeros page ∷ [])
+
+-- a block is read-locked by bit 2 of its lock register
+unfoldable pub readLocked : Device → ℕ → Bool
+readLocked d block = eqb (bitAnd (getD (d .locks) block 0) 4) 4
+
+-- the bytes shown: the page's where the block is read-locked, else the block's own; nothing where nothing can be shown
+unfoldable pub shown : Device → List ℕ → List ℕ → ℕ → List ℕ
+shown d image page block =
+    cond (canShow d image page block)
+    (cond (readLocked d block) (take 65536 page) (take 65536 (drop (block * 65536) image)))
+    []
+
+abbrev pub part : ℕ → ℕ → ℕ → Part
+part from start length = record { from = from; start = start; length = length }
+
+-- the same as numbers: 0 the page's empty front, 1 the image, 2 the page
+unfoldable pub partShown : Device → List ℕ → List ℕ → ℕ → Part
+partShown d image page block =
+    cond (canShow d image page block) (cond (readLocked d block) (part 2 0 65536) (part 1 (block * 65536) 65536))
+    (part 0 0 0)
+
+-- the bytes that the numbers name
+unfoldable pub contents : Part → List ℕ → List ℕ → List ℕ
+contents p image page = take (p .length) (drop (p .start) (cond (eqb (p .from) 1) image page))

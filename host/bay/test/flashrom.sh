@@ -1,0 +1,95 @@
+#!/bin/sh
+# Debian's flashrom against bay serve: probe, read, erase, write and verify, and the image file compared byte for byte.
+# With the word "all" every block is written, else three of them.
+. "$(dirname "$0")/lib.sh"
+
+if ! command -v flashrom >/dev/null; then
+    case_ "flashrom is installed (Debian's package flashrom)"
+    wrong "it is not: apt-get install flashrom"
+    finish
+fi
+
+# start OPTIONS...: a server for board.img in the background; its process is in server, its port in port.
+start() {
+    rm -f log
+    $BAY_RUN "$BAY_BUILD/bay" serve --port 0 "$@" board.img >log 2>err &
+    server=$!
+    tries=0
+    until grep -q '^listening' log 2>/dev/null || [ $tries -ge 200 ]; do
+        sleep 0.05
+        tries=$((tries + 1))
+    done
+    port=$(sed -n 's/^listening on 127\.0\.0\.1:\([0-9]*\) .*/\1/p' log)
+}
+
+stop() {
+    kill -TERM $server
+    ended $server
+    [ $got -eq 0 ] || wrong "the server's status is $got: $(cat err)"
+}
+
+chip() { flashrom -p "serprog:ip=127.0.0.1:$port" -c M50FW080 "$@"; }
+
+# put BLOCK FILE: that block of new.img from the file
+put() { dd if="$2" of=new.img bs=65536 skip="$1" seek="$1" count=1 conv=notrunc 2>/dev/null; }
+
+seq 100000 300000 | head -c 1048576 >old.img
+seq 500000 900000 | head -c 1048576 >other.img
+cp old.img board.img
+cp old.img new.img
+if [ "$1" = all ]; then
+    cp other.img new.img
+else
+    put 3 other.img
+    put 15 other.img
+    printf '\060\060\060' | dd of=new.img bs=1 seek=458753 conv=notrunc 2>/dev/null
+fi
+
+case_ "flashrom finds the part among all that it knows"
+start
+gives 0 flashrom -p "serprog:ip=127.0.0.1:$port"
+says out 'Found ST flash chip "M50FW080" (1024 kB, FWH) on serprog.'
+
+case_ "it reads the image as the file has it"
+gives 0 chip -r read.img
+same read.img old.img
+
+case_ "it erases and writes blocks and verifies them; the file then has the same bytes"
+began=$(date +%s)
+gives 0 chip -w new.img
+says out "VERIFIED."
+took=$(($(date +%s) - began))
+stop
+same board.img new.img
+
+case_ "a new server has the same part to show: verified again and read back"
+start
+gives 0 chip -v new.img
+says out "VERIFIED."
+gives 0 chip -r read.img
+same read.img new.img
+
+case_ "it erases one block by itself"
+echo "00050000:0005ffff five" >layout
+gives 0 chip -l layout -i five -E
+stop
+{ head -c 327680 new.img; head -c 65536 /dev/zero | tr '\0' '\377'; tail -c 655360 new.img; } >want
+same board.img want
+
+case_ "with write protect held low the same write fails, and the file is untouched"
+cp old.img board.img
+inode=$(stat -c %i board.img)
+start --wp low
+chip -w new.img >out 2>err
+got=$?
+[ $got -ne 0 ] || wrong "the write did not fail"
+says out "ERASE FAILED!"
+says err "Good, writing to the flash chip apparently didn't do anything."
+gives 0 chip -r read.img
+same read.img old.img
+stop
+same board.img old.img
+[ "$(stat -c %i board.img)" = "$inode" ] || wrong "the file was replaced by another"
+
+echo "flashrom's write and verify took $took seconds"
+finish

@@ -1,0 +1,90 @@
+# Shared by the test scripts: a folder to work in, the built programs, and a count of the cases that held.
+# Wants BAY_BUILD (where the programs were built); BAY_RUN is put in front of each, where a machine needs that.
+
+root=$(cd "$(dirname "$0")/../../.." && pwd)
+case ${BAY_BUILD:?where the programs were built} in
+/*) ;;
+*) BAY_BUILD=$root/$BAY_BUILD ;;
+esac
+PATH=$PATH:/usr/sbin:/sbin
+LC_ALL=C
+export PATH LC_ALL
+
+work=$(mktemp -d) || exit 1
+trap 'cd /; rm -rf "$work"' EXIT
+cd "$work" || exit 1
+
+passed=0
+failed=0
+name=
+
+bay() { $BAY_RUN "$BAY_BUILD/bay" "$@"; }
+lay() { $BAY_RUN "$BAY_BUILD/lay"; }
+poke() { $BAY_RUN "$BAY_BUILD/poke" "$@"; }
+
+# Ends the case before it, if there is one, and begins another.
+case_() {
+    end_case
+    name=$1
+    bad=
+}
+
+end_case() {
+    [ -z "$name" ] && return
+    if [ -z "$bad" ]; then
+        passed=$((passed + 1))
+    else
+        failed=$((failed + 1))
+        printf 'FAILED  %s: %s\n%s\n' "${0##*/}" "$name" "$bad"
+    fi
+    name=
+}
+
+# Something in this case did not hold.
+wrong() { bad="$bad    $*
+"; }
+
+# gives STATUS COMMAND...: runs it, keeps what it printed in the files out and err, and compares the exit status.
+gives() {
+    want=$1
+    shift
+    "$@" >out 2>err
+    got=$?
+    [ $got -eq "$want" ] || wrong "status $got and not $want: $* ($(head -c 300 err))"
+}
+
+# says FILE WORDS: the file has the words in one of its lines.
+says() { grep -qF -- "$2" "$1" || wrong "$1 does not say: $2 (but: $(head -c 300 "$1"))"; }
+
+# An error that a person can use: what was expected, what was found, what to do, and nothing on the standard output.
+explains() {
+    says err "  expected  "
+    says err "  found     "
+    says err "  do        "
+    [ -s out ] && wrong "an error, and yet something on the standard output"
+}
+
+# ended PID: waits for a program in the background and keeps its exit status in got.
+ended() {
+    wait "$1" 2>/dev/null
+    got=$?
+}
+
+same() { cmp -s "$1" "$2" || wrong "$1 and $2 differ"; }
+absent() { [ ! -e "$1" ] || wrong "$1 is there"; }
+
+# No file that was written beside its target is left over.
+tidy() { [ -z "$(find . -name '.bay-*')" ] || wrong "left over: $(find . -name '.bay-*')"; }
+
+# hex BYTES...: writes the bytes that the hexadecimal digits name.
+hex() { for byte in "$@"; do printf "\\$(printf %o "0x$byte")"; done; }
+
+# An image of the part's size, every byte of it Z (5Ah).
+make_image() { head -c 1048576 /dev/zero | tr '\0' 'Z' >"$1"; }
+
+finish() {
+    end_case
+    echo "$passed passed, $failed failed"
+    [ $failed -eq 0 ]
+    exit
+}

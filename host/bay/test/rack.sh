@@ -1,0 +1,189 @@
+#!/bin/sh
+# bay rack, as a person runs it.
+. "$(dirname "$0")/lib.sh"
+
+make_image board.img
+hex 01 01 00 00 02 06 00 0A 00 01 00 1E 00 >quick.sheet
+
+# bay N erases block N - 1, begun 600 clocks later from bay to bay
+rack_folder() {
+    mkdir "$1"
+    for bay in 01 02 03 04 05 06 07 08 09 10 11 12; do
+        cp board.img "$1/bay$bay.img"
+        cp quick.sheet "$1/bay$bay.sheet"
+        digit=$(printf %X $((${bay#0} - 1)))
+        printf 'wait %d\nwrite FB%s0002 00\nwrite FF%s0000 20\nwrite FF%s0000 D0\nwait 9000\n' \
+            $((${bay#0} * 600)) "$digit" "$digit" "$digit" | lay >"$1/bay$bay.stream"
+    done
+}
+
+rack_folder tonight
+echo "at 6500 wp low   # for all twelve" >tonight/harness.track
+
+case_ "twelve bays under one harness: what was begun before the pull finishes, what comes after is turned away"
+mkdir after
+gives 0 bay rack tonight --save after
+cat >want <<'END'
+bay  outcome  samples  status                                spoiled   changed
+  1  done       9,651  80h, ready                            none      0
+  2  done      10,251  80h, ready                            none      1
+  3  done      10,851  80h, ready                            none      2
+  4  done      11,451  80h, ready                            none      3
+  5  done      12,051  80h, ready                            none      4
+  6  done      12,651  80h, ready                            none      5
+  7  done      13,251  80h, ready                            none      6
+  8  done      13,851  80h, ready                            none      7
+  9  done      14,451  80h, ready                            none      8
+ 10  done      15,051  80h, ready                            none      9
+ 11  done      15,651  82h, ready, protected block           none      none
+ 12  done      16,251  82h, ready, protected block           none      none
+12 done, 0 not, 0 empty
+END
+same out want
+says err "12 of 12"
+[ "$(grep -c 'is home' err)" -eq 12 ] || wrong "not twelve lines of progress"
+
+case_ "the saved images are those of bay run on the same streams, and the rack's own are untouched"
+for bay in 01 04 10 12; do
+    cmp -s tonight/bay$bay.img board.img || wrong "bay $bay's image was written over"
+done
+gives 0 bay run tonight/bay04.img tonight/bay04.stream --sheet tonight/bay04.sheet --save alone.img
+same alone.img after/bay04.img
+same after/bay11.img board.img
+same after/bay12.img board.img
+
+case_ "one bay's bad file does not stop the others; the status is the lowest refusal"
+cp -r tonight bad
+head -c 1048575 board.img >bad/bay01.img
+head -c 37 tonight/bay02.stream >bad/bay02.stream
+rm bad/bay03.img
+{ cat tonight/bay05.stream; printf 'sample 07FF\n' | lay; } >bad/bay05.stream
+echo nonsense >bad/bay06.sheet
+hex 01 01 00 10 02 06 00 0A 00 01 00 1E 00 >bad/bay07.sheet
+rm bad/bay08.*
+rm bad/bay09.stream
+mkdir bad/bay09.stream
+mkdir saved
+gives 2 bay rack bad --save saved
+says out "  1  refusal 2"
+says out "  2  refusal 5"
+says out "  3  trouble 66"
+says out "  4  done      11,451  80h, ready                            none      3"
+says out "  5  refusal 7"
+says out "  6  refusal 8"
+says out "  7  refusal 3"
+says out "  8  empty"
+says out "  9  trouble 66"
+says out " 10  done"
+says out "4 done, 7 not, 1 empty"
+for bay in 1 2 3 5 6 7 9; do
+    says err "bay rack: bay $bay: "
+done
+says err "  expected  "
+says err "  do        "
+for bay in 01 02 03 05 06 07 08 09; do
+    absent saved/bay$bay.img
+done
+same saved/bay04.img after/bay04.img
+tidy
+
+case_ "the status of other trouble, where no bay is refused"
+cp -r tonight gone
+rm gone/bay03.img
+gives 66 bay rack gone
+says out "11 done, 1 not, 0 empty"
+
+case_ "a harness for voltage and top block lock; class 3 is each bay's refusal 7"
+cp -r tonight volts
+echo "at 0 voltage 0" >volts/harness.track
+gives 0 bay rack volts
+[ "$(grep -c '88h, ready, voltage too low' out)" -eq 12 ] || wrong "not twelve with too low a voltage"
+echo "at 0 voltage 3" >volts/harness.track
+gives 7 bay rack volts
+[ "$(grep -c 'refusal 7' out)" -eq 12 ] || wrong "not twelve refusals"
+mkdir top
+cp board.img top/bay01.img
+cp quick.sheet top/bay01.sheet
+printf 'write FBF0002 00\nwrite FFF0000 20\nwrite FFF0000 D0\n' | lay >top/bay01.stream
+printf 'at 0 tbl low wp high\n' >top/harness.track
+gives 0 bay rack top
+says out "  1  done          51  82h, ready, protected block"
+says out "1 done, 0 not, 11 empty"
+printf 'at 0 tbl low\nat 46 tbl high\n' >top/harness.track
+gives 0 bay rack top
+says out "82h" # the write acts on clock 34 + 11
+printf 'at 0 tbl low\nat 45 tbl high\n' >top/harness.track
+gives 0 bay rack top
+says out "00h, busy"
+
+case_ "another track, and none"
+echo "at 0 wp low tbl low" >all.track
+gives 0 bay rack tonight --harness all.track
+[ "$(grep -c '82h' out)" -eq 12 ] || wrong "not twelve turned away"
+gives 0 bay rack top --harness /dev/null
+says out "00h, busy"
+gives 66 bay rack tonight --harness missing.track
+explains
+
+case_ "a track that is none stops the rack before it begins"
+for line in "at wp low" "at 5" "at 5 wp" "at 5 wp up" "at 5 rp low" "at 5 voltage 4" "at -1 wp low" "wp low" \
+    "at 5 wp low tbl"; do
+    printf '# a remark\n\n%s\n' "$line" >bad.track
+    gives 65 bay rack tonight --harness bad.track
+    explains
+    says err "line 3"
+done
+printf 'at 9 wp low\nat 8 wp high\n' >bad.track
+gives 65 bay rack tonight --harness bad.track
+says err "line 2"
+gives 65 bay rack tonight --harness board.img
+explains
+gives 65 bay rack tonight --harness /dev/zero
+explains
+
+case_ "no such folder"
+gives 66 bay rack missing
+explains
+gives 66 bay rack tonight --save missing
+explains
+gives 66 bay rack board.img
+explains
+gives 64 bay rack
+explains
+gives 64 bay rack tonight --seconds 0
+explains
+mkdir none
+gives 0 bay rack none
+says out "0 done, 0 not, 12 empty"
+
+case_ "a full disk: no half-written image, and the status says so"
+mkdir little
+full() { (ulimit -f 200 && bay "$@"); }
+gives 74 full rack tonight --save little
+[ -z "$(ls -A little)" ] || wrong "left: $(ls -A little)"
+
+case_ "a bay that waits for ever is ended after its time, and the others are done"
+cp -r tonight stuck
+rm stuck/bay02.img
+mkfifo stuck/bay02.img
+gives 70 bay rack stuck --seconds 2
+says out "11 done, 1 not, 0 empty"
+says err "bay rack: bay 2 ended before it was done"
+
+case_ "interrupted: it ends by the signal, and no bay goes on"
+mkdir cut
+$BAY_RUN "$BAY_BUILD/bay" rack stuck --save cut --seconds 60 >out 2>err &
+running=$!
+tries=0
+while [ "$(grep -c 'is home' err)" -lt 11 ] && [ $tries -lt 200 ]; do
+    sleep 0.05
+    tries=$((tries + 1))
+done
+kill -TERM $running
+ended $running
+[ $got -eq 143 ] || wrong "status $got: it did not end by the signal"
+absent cut/bay02.img
+same cut/bay04.img after/bay04.img
+tidy
+
+finish

@@ -1,0 +1,189 @@
+#!/bin/sh
+# bay trace, as a person runs it, and the waveform as sigrok reads it.
+. "$(dirname "$0")/lib.sh"
+
+make_image board.img
+cp board.img kept.img
+lay >night.stream <<'END'
+write FB30002 00
+write FF30000 20
+write FF30000 D0
+wait 100
+wp low
+wait 8400
+read FF30000
+write FF50000 20
+cut 14              # a write that has acted by then
+write FF50000 D0
+cut 12              # and one that has not
+write FF00000 FF
+straps 3
+write FF00000 FF
+straps 0
+size 2
+read FFC0000
+size 0
+write FF00000 FF
+read FF2FFFF
+read FBC0000
+read FBC0001
+inputs 21
+read FBC0100
+read FB30002
+read FB30003
+sample 03E7         # the frame line low with a nibble that starts nothing
+voltage 2
+tbl low
+wait 1
+read FBC0000
+END
+
+case_ "every frame in words, and the pins as they change"
+gives 0 bay trace board.img night.stream --times 10,1,30
+cat >want <<'END'
+clock      0  pins   RP high, INIT high, TBL high, WP high, voltage normal, inputs 00h
+clock      0  write  lock of block 3 (FB30002h)    00h  answered; status stays 80h, ready
+clock     17  write  array 30000h (block 3)        20h  answered; status stays 80h, ready
+clock     34  write  array 30000h (block 3)        D0h  answered; status 80h to 00h, busy
+clock    151  pins   WP low
+clock   8493  status 00h to 80h, ready
+clock   8551  read   array 30000h (block 3)        80h  answered
+clock   8570  write  array 50000h (block 5)        20h  answered; status stays 80h, ready
+clock   8587  write  array 50000h (block 5)        D0h  aborted on clock 14; status 80h to 82h, ready, protected block
+clock   8601  write  array 00000h (block 0)        -    aborted on clock 12
+clock   8613  write  array 00000h (block 0)        FFh  not answered (device select 3, size 0); status stays 82h, ready, protected block
+clock   8630  read   array C0000h (block 12)       -    not answered (device select 0, size 2)
+clock   8649  write  array 00000h (block 0)        FFh  answered; status stays 82h, ready, protected block
+clock   8666  read   array 2FFFFh (block 2)        5Ah  answered
+clock   8685  read   maker (FBC0000h)              20h  answered
+clock   8704  read   device code (FBC0001h)        2Dh  answered
+clock   8723  pins   inputs 15h
+clock   8723  read   inputs (FBC0100h)             15h  answered
+clock   8742  read   lock of block 3 (FB30002h)    00h  answered
+clock   8761  read   register FB30003h             00h  answered
+clock   8780  pins   WP high, inputs 00h
+clock   8780  start  7h begins no frame
+clock   8781  pins   TBL low, WP low, voltage twelve volts, inputs 15h
+clock   8782  read   maker (FBC0000h)              20h  answered
+end of the stream after 8,801 clocks; status 82h, ready, protected block; spoiled blocks: none
+END
+same out want
+same board.img kept.img
+
+case_ "a frame broken off on each of its clocks says on which"
+for clock in 2 3 4 5 6 7 8 9 10 11 12 13 14 15 16 17 18 19; do
+    printf 'cut %d\nread FF30000\n' $clock | lay >cut.stream
+    gives 0 bay trace board.img cut.stream
+    says out "aborted on clock $clock"
+done
+printf 'cut 20\nread FF30000\n' | lay >cut.stream
+gives 0 bay trace board.img cut.stream
+says out "read   array 30000h (block 3)        5Ah  answered"
+
+case_ "a reset that drops a frame and spoils a block, and a stream that ends within a frame"
+{ printf 'write FB30002 00\nwrite FF30000 20\nwrite FF30000 D0\nwait 40\n' | lay
+  printf 'read FF30000\n' | lay | head -c 12
+  printf 'init low\nwait 1\ninit high\nwait 1\n' | lay
+  printf 'read FF30000\n' | lay | head -c 12; } >reset.stream
+gives 0 bay trace board.img reset.stream
+says out "clock     91  read   -                             -    reset on clock 7"
+says out "clock     97  pins   INIT low"
+says out "clock     97  status 00h to 80h, ready"
+says out "clock     97  spoiled blocks: 3"
+says out "clock     98  pins   INIT high"
+says out "clock     99  read   -                             -    cut off by the end of the stream"
+says out "spoiled blocks: 3"
+
+case_ "the waveform: sigrok reads it without a complaint, wire by wire as the samples and answers are"
+gives 0 bay trace board.img night.stream --times 10,1,30 --vcd night.vcd
+same out want
+if command -v sigrok-cli >/dev/null; then
+    gives 0 sigrok-cli -I vcd -i night.vcd --show
+    [ -s err ] && wrong "sigrok complains: $(cat err)"
+    for wire in clk frame host0 host3 device0 device3 device_drives RP INIT TBL WP voltage0 voltage1 ready \
+        erase_suspended erase_error program_error voltage_error program_suspended protected_block; do
+        says out "- $wire: logic"
+    done
+    says out "Channels: 24"
+    # the last three frames, sampled where clk rises, against the stream and the answers
+    printf 'read FBC0000\nwrite FB30002 00\ninputs 21\nvoltage 2\nwp low\nread FBC0100\n' | lay >small.stream
+    gives 0 bay trace board.img small.stream --vcd small.vcd
+    gives 0 bay run board.img small.stream --answers small.answers
+    gives 0 sigrok-cli -I vcd -i small.vcd -O csv
+    [ -s err ] && wrong "sigrok complains: $(cat err)"
+    # columns: 1 clk, 2 frame, 3-6 host, 7-10 device, 11 drives, 12 RP, 13 INIT, 14 TBL, 15 WP, 16-17 voltage
+    awk -F, '/^[01],/ {
+        if ($1 == 1 && last == 0) {
+            print $3 + 2 * $4 + 4 * $5 + 8 * $6 + 16 * $2 + 32 * $12 + 64 * $13 + 128 * $14, $15 + 2 * $16 + 4 * $17,
+                $7 + 2 * $8 + 4 * $9 + 8 * $10 + 16 * $11
+        }
+        last = $1
+    }' out >seen
+    od -An -v -tu1 -w2 small.stream | awk '{ print $1, $2 % 8 }' >samples
+    od -An -v -tu1 -w1 small.answers | awk '{ print $1 }' | paste -d' ' samples - >want
+    [ "$(wc -l <want)" -eq 55 ] || wrong "the stream is not the one that was meant"
+    same seen want
+else
+    wrong "sigrok-cli is not installed (Debian's package sigrok-cli)"
+fi
+
+case_ "the waveform on the standard output, the words on the standard error"
+gives 0 bay trace board.img night.stream --times 10,1,30 --vcd -
+same out night.vcd
+says err "end of the stream after 8,801 clocks"
+
+case_ "the same refusals as a run, before a word is printed"
+head -c 1048575 board.img >short.img
+gives 2 bay trace short.img night.stream --vcd new.vcd
+explains
+head -c 37 night.stream >odd.stream
+gives 5 bay trace board.img odd.stream --vcd new.vcd
+explains
+{ cat night.stream; printf 'sample 07FF\n' | lay; } >class3.stream
+gives 7 bay trace board.img class3.stream --vcd new.vcd
+explains
+gives 3 bay trace board.img night.stream --straps 16 --vcd new.vcd
+gives 4 bay trace board.img night.stream --times 0,1,1 --vcd new.vcd
+gives 66 bay trace missing.img night.stream --vcd new.vcd
+explains
+gives 66 bay trace board.img missing.stream --vcd new.vcd
+explains
+gives 64 bay trace board.img
+explains
+absent new.vcd
+tidy
+
+case_ "a full disk: the old waveform stays"
+echo old >kept.vcd
+full() { (ulimit -f 50 && bay "$@"); }
+gives 74 full trace board.img night.stream --times 10,1,30 --vcd kept.vcd
+explains
+[ "$(cat kept.vcd)" = old ] || wrong "kept.vcd was written over"
+tidy
+
+case_ "interrupted with its file written beside and its words half out: the old waveform stays, nothing is left over"
+i=0
+while [ $i -lt 3000 ]; do
+    echo "read FBC0000"
+    i=$((i + 1))
+done | lay >long.stream
+mkfifo words
+$BAY_RUN "$BAY_BUILD/bay" trace board.img long.stream --vcd kept.vcd >words 2>err &
+running=$!
+exec 9<words
+tries=0
+while [ -z "$(find . -name '.bay-*')" ] && [ $tries -lt 200 ]; do
+    sleep 0.05
+    tries=$((tries + 1))
+done
+[ -n "$(find . -name '.bay-*')" ] || wrong "nothing was ever written beside"
+sleep 0.2
+kill -INT $running 2>/dev/null
+kill -TERM $running 2>/dev/null
+ended $running
+exec 9<&-
+[ $got -gt 128 ] || wrong "status $got: it did not end by the signal"
+[ "$(cat kept.vcd)" = old ] || wrong "kept.vcd was written over"
+tidy
+
+finish
