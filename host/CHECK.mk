@@ -1,6 +1,6 @@
 # The independent check of the pod: the model in plain C, the differential test against it, and the case runner.
 #
-# For inclusion in another makefile, after its first target. That one sets
+# For inclusion in another makefile, after its first target. That one sets, before the inclusion,
 #   CC, CFLAGS   the compiler, and flags that are to include -std=c11
 #   POD_LIB      the library under test
 #   BUILD        the directory for what is built

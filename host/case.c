@@ -96,6 +96,7 @@ static struct {
     uint32_t straps, program, slice, pause;
     uint32_t expect_number;
     bool samples_begun;
+    bool stated; /* the text expects something */
     uint16_t pins;  /* all of a sample but its lines and frame line */
     uint16_t lines; /* of an idle sample */
 
@@ -452,7 +453,7 @@ static void do_settle(struct words *w)
     take_word(w, "=");
     c->b = take_decimal(w);
     c->c = take_decimal(w);
-    if (w->bad || sc.samples + c->c > MAX_SAMPLES) {
+    if (w->bad || c->c > MAX_SAMPLES - sc.samples) {
         sc.run_stopped = true;
         return;
     }
@@ -537,8 +538,14 @@ static void do_sheet(struct words *w)
 
 static void do_line(struct words *w)
 {
+    static const char *const settings[] = {"straps", "times", "image", "pin", "voltage", "inputs", "lines",
+                                           "idle",   "reset", "raw",   "on"};
     const char *what = take(w);
+    bool setting = false;
 
+    for (size_t i = 0; i < sizeof settings / sizeof settings[0]; i++)
+        setting |= strcmp(what, settings[i]) == 0;
+    sc.stated |= !setting;
     if (strcmp(what, "write") == 0) {
         do_frame(w, true);
     } else if (strcmp(what, "read") == 0) {
@@ -555,6 +562,8 @@ static void do_line(struct words *w)
         sc.open = true;
     } else if (strcmp(what, "answers") == 0) {
         do_answers(w);
+    } else if (sc.samples_begun && (strcmp(what, "straps") == 0 || strcmp(what, "times") == 0)) {
+        bad_text(w, "power-up comes before the first sample");
     } else if (strcmp(what, "straps") == 0) {
         sc.straps = take_decimal(w);
     } else if (strcmp(what, "times") == 0) {
@@ -1025,14 +1034,12 @@ int main(int argc, char **argv)
     sheet_room = buffer(SPARE);
 
     for (int i = 1; i < argc; i++) {
-        const long before = checked;
-
         file_failed = false;
         files++;
         if (read_case(argv[i]))
             carry_out();
-        if (!file_failed && checked == before)
-            failed(sc.line, "nothing was checked");
+        if (!file_failed && !sc.stated)
+            failed(sc.line, "nothing is expected here");
     }
     printf("case: %d files, %ld checks, %d failures\n", files, checked, failures);
     free(first_image);

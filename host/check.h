@@ -41,20 +41,32 @@ static inline void check_group(const char *name)
     check_count.faults = 0;
 }
 
-/* One check: 1 where `found` is `wanted`; otherwise 0, and a line with both. */
+/* One check that did not hold, in words: what was looked at, what was expected and what was found. */
+__attribute__((format(printf, 1, 2)))
+static inline void fault(const char *format, ...)
+{
+    if (check_count.faults++ >= CHECK_SHOWN)
+        return;
+    va_list list;
+    printf("%s: ", check_count.group);
+    va_start(list, format);
+    vprintf(format, list);
+    va_end(list);
+    printf("\n");
+}
+
+/* One check of a number: 1 where `found` is `wanted`, otherwise 0. */
 __attribute__((format(printf, 3, 4)))
 static inline int expect(uint32_t wanted, uint32_t found, const char *format, ...)
 {
     if (found == wanted)
         return 1;
-    if (check_count.faults++ < CHECK_SHOWN) {
-        va_list words;
-        printf("%s: ", check_count.group);
-        va_start(words, format);
-        vprintf(format, words);
-        va_end(words);
-        printf(": expected %u (%Xh), found %u (%Xh)\n", wanted, wanted, found, found);
-    }
+    char what[200];
+    va_list list;
+    va_start(list, format);
+    vsnprintf(what, sizeof what, format, list);
+    va_end(list);
+    fault("%s: expected %u (%Xh), found %u (%Xh)", what, wanted, wanted, found, found);
     return 0;
 }
 
@@ -337,8 +349,8 @@ static inline uint32_t is_sound(const struct pod_device *device)
     for (size_t block = 0; block < POD_BLOCKS; block++)
         if (device->locks[block] > 7)
             return 0;
-    return device->straps <= MOST_STRAPS && times_in_range(numbers_of(device->times)) && controller->mode <= MODE_SIGNATURE
-        && (controller->errors & ~ERROR_BITS) == 0 && frame_is_sound(device->frame)
+    return device->straps <= MOST_STRAPS && times_in_range(numbers_of(device->times))
+        && controller->mode <= MODE_SIGNATURE && (controller->errors & ~ERROR_BITS) == 0 && frame_is_sound(device->frame)
         && (controller->outer.kind == NO_OPERATION || operation_is_sound(controller->outer))
         && inner_is_sound(device) && setup_is_sound(device);
 }

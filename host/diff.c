@@ -143,6 +143,7 @@ static bool runnable; /* only samples in this trace, so that run can follow it *
 static bool step_rests; /* a settle does the step side's part of these samples */
 static bool pinpoint; /* looking for the clock of a departure in the image */
 static bool after_traces;
+static const struct pod_device *tried; /* the device of wild bytes, or of one fault, that is being tried */
 static uint16_t dirty_blocks;
 
 /* how this trace behaves */
@@ -185,6 +186,11 @@ static _Noreturn void departure(const char *format, ...)
     for (uint32_t i = 32; i > 0; i--)
         if (i <= clock_number)
             printf(" %04X", (unsigned)last_samples[(clock_number - i) % 32]);
+    if (tried != NULL) {
+        printf("\ndiff: the bytes of the device:");
+        for (size_t i = 0; i < sizeof *tried; i++)
+            printf(" %02X", (unsigned)((const uint8_t *)tried)[i]);
+    }
     if (after_traces)
         printf("\ndiff: after the traces, in the erase at its ordinary time\n");
     else
@@ -914,8 +920,11 @@ static struct model_times maybe_bad_times(uint32_t bad)
     if (one_in(bad)) {
         const uint32_t wild = one_in(4) ? rnd(UINT32_MAX) : 0;
 
-        switch (rnd(6)) {
-        case 0: t.program = wild % 2 ? wild : 0; break;
+        switch (rnd(9)) {
+        case 6: t.program += 1u << (8 + rnd(24)); break; /* what too narrow a number would lose */
+        case 7: t.slice += 1u << (16 + rnd(16)); break;
+        case 8: t.pause += 1u << (8 + rnd(24)); break;
+        case 0: t.program = 0; break;
         case 1: t.program = wild > 200 ? wild : 201; break;
         case 2: t.slice = 0; break;
         case 3: t.slice = wild > 39062 ? wild : 39063; break;
@@ -1154,8 +1163,84 @@ static void try_fault(void)
     struct pod_device d = step_device;
     const char *what = one_fault(&d);
 
+    tried = &d;
     if (what != NULL)
         expect_refused(what, &d, &counts[FAULTS_REFUSED]);
+    tried = NULL;
+}
+
+/* A number about a range: mostly in it, often at its ends, sometimes just outside. */
+static uint32_t about(uint32_t low, uint32_t high)
+{
+    switch (rnd(6)) {
+    case 0: return low;
+    case 1: return high;
+    case 2: return one_in(4) ? low - 1 : one_in(3) ? high + 1 : low;
+    default: return low + rnd(high - low + 1);
+    }
+}
+
+static void wild_operation(struct pod_operation *o)
+{
+    const struct model_times t = some_times();
+
+    switch (rnd(6)) {
+    case 0:
+        o->kind = (uint8_t)rnd(3);
+        break;
+    case 1:
+        o->state = (uint8_t)about(0, 2);
+        break;
+    case 2:
+        o->address = about(0, IMAGE - 1);
+        break;
+    case 3:
+        o->times.program = (uint16_t)t.program;
+        o->times.slice = (uint16_t)t.slice;
+        o->times.pause = (uint16_t)t.pause;
+        break;
+    default:
+        break;
+    }
+    if (one_in(2)) {
+        o->slices = about(o->kind == 2, o->kind == 2 ? 256 : 0);
+        o->left = about(1, 33u * (o->kind == 2 ? o->times.slice : o->times.program) + 1u) - one_in(2);
+        o->pause = o->state == 1 ? about(1, 33u * o->times.pause + 1u) : 0;
+    }
+}
+
+/* A field of a device, or some that go together, set to what may or may not be sound. */
+static void wild_field(struct pod_device *d)
+{
+    switch (rnd(9)) {
+    case 0:
+    case 1:
+        d->frame.kind = (uint8_t)rnd(3);
+        d->frame.clock = (uint8_t)(d->frame.kind == 0 ? 0 : about(1, d->frame.kind == 1 ? 18 : 16));
+        d->frame.byte = rnd_byte();
+        d->frame.address = about(0, 0xFFFFFFF);
+        break;
+    case 2:
+    case 3:
+        wild_operation(&d->controller.outer);
+        break;
+    case 4:
+        wild_operation(&d->controller.inner);
+        break;
+    case 5:
+        d->controller.setup = (uint8_t)about(0, 2);
+        break;
+    case 6:
+        d->controller.mode = (uint8_t)about(0, 2);
+        d->controller.errors = rnd_byte() & 0x3A;
+        break;
+    case 7:
+        d->locks[rnd(16)] = (uint8_t)about(0, 7);
+        break;
+    default:
+        d->straps = (uint8_t)about(0, 15);
+        break;
+    }
 }
 
 /* Bytes as a device: refused whole, or stepped to a device that the next step takes. */
@@ -1163,20 +1248,26 @@ static void try_wild_device(void)
 {
     struct pod_device d = step_device, e;
     uint8_t *bytes = (uint8_t *)&d;
+    const uint32_t changes = 1 + rnd(3);
 
-    if (one_in(4)) {
+    if (one_in(8)) {
         for (size_t i = 0; i < sizeof d; i++)
             bytes[i] = one_in(3) ? rnd_byte() : (uint8_t)rnd(3);
-    } else {
-        const uint32_t changes = 1 + rnd(3);
+    } else if (one_in(4)) {
         for (uint32_t i = 0; i < changes; i++) {
             const uint32_t at = rnd(sizeof d);
             bytes[at] = one_in(2) ? rnd_byte() : (uint8_t)(bytes[at] ^ 1u << rnd(8));
         }
+    } else {
+        for (uint32_t i = 0; i < changes; i++)
+            wild_field(&d);
     }
+    const struct pod_device start = d;
     const struct pod_powered set = pod_set_times(d, 1, 1, 1);
+    tried = &start;
     if (set.number == NUMBER_UNSOUND) {
         expect_refused("wild bytes", &d, &counts[WILD_REFUSED]);
+        tried = NULL;
         return;
     }
     expect("number of pod_set_times on wild bytes", NUMBER_DONE, set.number);
@@ -1186,10 +1277,12 @@ static void try_wild_device(void)
         uint16_t sample = (uint16_t)rnd(65536);
         if ((sample & SAMPLE_CLASS) == SAMPLE_CLASS)
             sample = (uint16_t)(sample ^ 1u << SAMPLE_CLASS_SHIFT);
-        if (!one_in(20))
+        if (!one_in(40))
             sample |= SAMPLE_FRAME;
         if (!one_in(60))
             sample |= SAMPLE_RP | SAMPLE_INIT;
+        if (one_in(3))
+            sample = (uint16_t)((sample & ~(uint32_t)SAMPLE_LINES) | (one_in(2) ? d.straps & 15u : 0u));
         const struct pod_stepped stepped = pod_step(d, wild_image, IMAGE, sample);
         const struct pod_clocked clocked = pod_clock(&e, wild_image_2, IMAGE, sample);
         expect("number of pod_step on wild bytes", NUMBER_DONE, stepped.number);
@@ -1202,6 +1295,7 @@ static void try_wild_device(void)
     if (memcmp(wild_image, wild_image_2, IMAGE) != 0)
         departure("the images of pod_clock and pod_step differ on wild bytes");
     counts[WILD_STEPPED]++;
+    tried = NULL;
 }
 
 /* Calls that must be refused, or not, on the present device: the model says which. */
@@ -1241,7 +1335,8 @@ static void try_refusals(void)
 
 static void try_power_up(void)
 {
-    const uint32_t straps = one_in(3) ? 16 + (one_in(2) ? 0 : rnd(UINT32_MAX - 16)) : rnd(16);
+    const uint32_t narrow = rnd(16), high = 1u << (4 + rnd(28));
+    const uint32_t straps = one_in(3) ? narrow + high : narrow;
     const struct model_times t = maybe_bad_times(2);
     struct model m;
     const uint32_t number = model_power_up(&m, straps, t);
@@ -1257,7 +1352,8 @@ static void try_power_up(void)
 
 static void try_view(void)
 {
-    const uint32_t block = one_in(6) ? rnd(UINT32_MAX) : one_in(6) ? 16 : some_block();
+    const uint32_t near = some_block(), high = 1u << (4 + rnd(28));
+    const uint32_t block = one_in(5) ? near + high : near;
     const size_t image_len = one_in(8) ? IMAGE - 1 + 2 * rnd(2) : IMAGE;
     const size_t page_len = one_in(8) ? BLOCK - 1 + 2 * rnd(2) : BLOCK;
     const uint32_t soiled = one_in(6) ? (one_in(3) ? 0 : one_in(2) ? BLOCK - 1 : rnd(BLOCK)) : UINT32_MAX;
@@ -1372,9 +1468,9 @@ static void call_aside(void)
         try_refusals();
         break;
     case 2:
+    case 3:
         try_wild_device();
         break;
-    case 3:
     case 4:
     case 5:
         try_fault();

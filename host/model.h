@@ -124,7 +124,7 @@ uint32_t model_step(struct model *m, uint8_t *image, size_t image_len, uint16_t 
 uint32_t model_settle(struct model *m, uint8_t *image, size_t image_len, uint16_t sample, uint32_t limit,
                       uint32_t *count);
 
-/* From power-up through a stream of samples. */
+/* A fresh part, stepped through all samples of a stream. */
 struct model_report model_run(uint8_t *image, size_t image_len, const uint8_t *stream, size_t stream_len,
                               uint8_t *answers, size_t answers_len, uint32_t straps, struct model_times times);
 

@@ -4,10 +4,12 @@
 #include "help.h"
 #include "trouble.h"
 
+#include <fcntl.h>
 #include <signal.h>
 #include <stdbool.h>
 #include <stdio.h>
 #include <string.h>
+#include <unistd.h>
 
 static const struct command {
     const char *name;
@@ -58,8 +60,20 @@ static int no_command(const char *found)
                    found);
 }
 
+/* A standard stream that was closed gets a file in its place that gives and takes nothing, so that no file or socket of
+ * bay's own is taken for it. */
+static void hold_standard_places(void)
+{
+    for (int place = STDIN_FILENO; place <= STDERR_FILENO; place++) {
+        if (fcntl(place, F_GETFD) < 0 && open("/dev/null", place == STDIN_FILENO ? O_WRONLY : O_RDONLY) < 0) {
+            return;
+        }
+    }
+}
+
 int main(int count, char **words)
 {
+    hold_standard_places();
     /* a file that may not grow further is then an error of the write, which is told and cleaned up after */
     if (signal(SIGXFSZ, SIG_IGN) == SIG_ERR || count < 2) {
         return no_command("nothing");

@@ -1,3 +1,4 @@
 pub mod Status
 pub mod Sound
 pub mod Power
+pub mod Told

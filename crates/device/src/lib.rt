@@ -10,6 +10,7 @@ ghost use mathlib.Core.Path.{_≡_};
 ghost use mathlib.Core.Bool.{_&&_};
 ghost use Rattle.device.specs.Status.{conditionOf, conditionBits, statusOf};
 ghost use Rattle.device.specs.Sound.{allBelow, counts, leftFits, stateFits, operationFits, outerFits, apart, inside, innerFits, setupKinds, frameFits, controllerFits, soundOf};
+ghost use Rattle.device.specs.Told.{statusTold, marksTold};
 ghost use Rattle.device.specs.Power.{refusal, poweredUp, timesSet};
 
 // What the controller is at: the rows of the command table.
@@ -298,4 +299,25 @@ pub fn set_times(device: Device, program: u32, slice: u32, pause: u32) -> Powere
         return Powered { number: 4, device };
     }
     Powered { number: 1, device }
+}
+
+// The status register as a host asks for it, 0 of a device that is not sound.
+pub fn status_told(d: Device) -> u32
+    ensures { λ r. ⌜ r ≡ statusTold d ⌝ }
+{
+    if sound(d) {
+        let controller = d.controller;
+        return status(controller) as u32;
+    }
+    0
+}
+
+// The spoiled marks likewise, bit b for block b.
+pub fn marks_told(d: Device) -> u32
+    ensures { λ r. ⌜ r ≡ marksTold d ⌝ }
+{
+    if sound(d) {
+        return d.controller.marks as u32;
+    }
+    0
 }

@@ -1,14 +1,14 @@
 # Shared by the test scripts: a folder to work in, the built programs, and a count of the cases that held.
-# Wants BAY_BUILD (where the programs were built); BAY_RUN is put in front of each, where a machine needs that.
+# BAY_BUILD says where the programs were built, if not in the project's build folder.
 
 root=$(cd "$(dirname "$0")/../../.." && pwd)
-case ${BAY_BUILD:?where the programs were built} in
+case ${BAY_BUILD:=build} in
 /*) ;;
 *) BAY_BUILD=$root/$BAY_BUILD ;;
 esac
 PATH=$PATH:/usr/sbin:/sbin
 LC_ALL=C
-export PATH LC_ALL
+export BAY_BUILD PATH LC_ALL
 
 work=$(mktemp -d) || exit 1
 trap 'cd /; rm -rf "$work"' EXIT
@@ -18,9 +18,18 @@ passed=0
 failed=0
 name=
 
-bay() { $BAY_RUN "$BAY_BUILD/bay" "$@"; }
-lay() { $BAY_RUN "$BAY_BUILD/lay"; }
-poke() { $BAY_RUN "$BAY_BUILD/poke" "$@"; }
+bay() { "$BAY_BUILD/bay" "$@"; }
+lay() { "$BAY_BUILD/lay"; }
+poke() { "$BAY_BUILD/poke" "$@"; }
+
+# installed GROUP PROGRAM: has the project install what a test needs; a case fails where that cannot be.
+installed() {
+    command -v "$2" >/dev/null && return
+    "$root/tools/setup" "$1" >"$work/setup.log" 2>&1
+    command -v "$2" >/dev/null && return
+    wrong "$2 is not installed: $(cat "$work/setup.log")"
+    false
+}
 
 # Ends the case before it, if there is one, and begins another.
 case_() {

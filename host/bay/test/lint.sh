@@ -1,6 +1,5 @@
 #!/bin/sh
 # The sources under cppcheck and under clang-tidy's bugprone and cert checks.
-BAY_BUILD=${BAY_BUILD:-/nowhere}
 . "$(dirname "$0")/lib.sh"
 cd "$root" || exit 1
 
@@ -8,19 +7,15 @@ sources=$(find host/bay -name '*.c' | sort)
 out=$work/out
 
 case_ "cppcheck has nothing to say"
-if command -v cppcheck >/dev/null; then
+if installed tidy cppcheck; then
     cppcheck --quiet --std=c11 --enable=warning,style,performance,portability --suppress=missingIncludeSystem \
         --error-exitcode=1 -D_XOPEN_SOURCE=700 -Ihost $sources >"$out" 2>&1 || wrong "$(cat "$out")"
-else
-    wrong "cppcheck is not installed (Debian's package cppcheck)"
 fi
 
 case_ "clang-tidy's bugprone and cert checks have nothing to say"
-if command -v clang-tidy >/dev/null; then
+if installed tidy clang-tidy; then
     clang-tidy --quiet --checks='-*,bugprone-*,cert-*' --warnings-as-errors='*' --header-filter='host/bay/' $sources -- \
         -std=c11 -D_XOPEN_SOURCE=700 -Ihost >"$out" 2>&1 || wrong "$(grep -E 'warning:|error:' "$out")"
-else
-    wrong "clang-tidy is not installed (Debian's package clang-tidy)"
 fi
 
 case_ "each file opens with what it is for"

@@ -76,7 +76,7 @@ static int obey(int line, const char *word)
         }
         (void)printf("%02X", (unsigned)byte);
     }
-    return puts("") < 0;
+    return puts("") < 0 || fflush(stdout) != 0;
 }
 
 int main(int count, char **words)

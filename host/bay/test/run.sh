@@ -192,6 +192,16 @@ explains
 [ "$(cat save.img)" = old ] || wrong "save.img was written over"
 tidy
 
+case_ "a standard stream that is closed is an error like another, and no file is taken for it"
+bay run board.img maker.stream --save save.img >&- 2>err
+[ $? -eq 74 ] || wrong "a closed standard output: the status is not 74"
+bay run board.img - <&- >out 2>err
+[ $? -eq 66 ] || wrong "a closed standard input: the status is not 66"
+bay run short.img maker.stream --save save.img 2>&-
+[ $? -eq 2 ] || wrong "a closed standard error: the status is not 2"
+[ "$(cat save.img)" = old ] || wrong "save.img was written over"
+tidy
+
 case_ "a target that is a folder, no ordinary file, or in no folder"
 mkdir folder
 for target in folder /dev/null missing/new.img ''; do
@@ -212,7 +222,7 @@ tidy
 
 case_ "interrupted while it waits for its stream: no file"
 mkfifo pipe
-$BAY_RUN "$BAY_BUILD/bay" run board.img pipe --save never.img >out 2>err &
+"$BAY_BUILD/bay" run board.img pipe --save never.img >out 2>err &
 running=$!
 exec 9>pipe
 kill -TERM $running
@@ -225,7 +235,7 @@ tidy
 case_ "interrupted at any moment: the file is the old one or the new one"
 for try in 0 1 2 3 4 5 6 7 8 9 10 11 12 13 14 15 16 17 18 19; do
     cp kept.img target.img
-    $BAY_RUN "$BAY_BUILD/bay" run board.img erase.stream --times 10,1,30 --save target.img >out 2>err &
+    "$BAY_BUILD/bay" run board.img erase.stream --times 10,1,30 --save target.img >out 2>err &
     running=$!
     sleep "0.0$((try * 7 % 20 + 10))"
     kill -TERM $running 2>/dev/null

@@ -5,10 +5,10 @@
 make_image board.img
 cp board.img kept.img
 
-# start OPTIONS...: a server in the background; its process is in server, its port in port.
-start() {
+# launch COMMAND...: a server in the background; its process is in server, its port in port.
+launch() {
     rm -f log
-    $BAY_RUN "$BAY_BUILD/bay" serve --port 0 "$@" >log 2>err &
+    "$@" >log 2>err &
     server=$!
     tries=0
     until grep -q '^listening' log 2>/dev/null || [ $tries -ge 200 ] || ! kill -0 $server 2>/dev/null; do
@@ -19,6 +19,8 @@ start() {
     [ -n "$port" ] || wrong "the server does not listen: $(cat err)"
 }
 
+start() { launch "$BAY_BUILD/bay" serve --port 0 "$@"; }
+
 # answers WANT WORDS...: what one client is told.
 answers() {
     want=$1
@@ -27,9 +29,9 @@ answers() {
     [ "$said" = "$want " ] || wrong "$*: $said and not $want $(cat poke.err)"
 }
 
-# stop: ends the server and compares its status with the one given.
+# stop STATUS [SIGNAL]: ends the server and compares its status with the one given.
 stop() {
-    kill -TERM $server
+    kill "-${2:-TERM}" $server
     ended $server
     [ $got -eq "$1" ] || wrong "the server's status is $got and not $1: $(cat err)"
 }
@@ -184,12 +186,16 @@ explains
 
 case_ "SIGINT ends the server too, in the middle of a client, and what was written is saved"
 start board.img --times 1,1,1
-poke "$port" s:0C0200B300 r:1 s:0C0000F340 r:1 s:0C0000F30F r:1 s:0F r:1 w:1 s:00 r:1 w:5000 >/dev/null 2>&1 &
+"$BAY_BUILD/poke" "$port" s:0C0200B300 r:1 s:0C0000F340 r:1 s:0C0000F30F r:1 s:0F r:1 e >first 2>&1 &
 other=$!
-sleep 0.5
-stop 0
-kill $other 2>/dev/null
+tries=0
+until [ "$(grep -c 06 first)" -ge 4 ] || [ $tries -ge 200 ]; do
+    sleep 0.05
+    tries=$((tries + 1))
+done
+stop 0 INT
 ended $other
+says first end
 { head -c 196608 kept.img; hex 0A; tail -c 851967 kept.img; } >want
 same board.img want
 says log "the server is to end"
@@ -199,13 +205,9 @@ case_ "a full disk: the image file stays as it was, and the status says so"
 cp kept.img board.img
 cat >serve_full <<'END'
 ulimit -f 200
-exec $BAY_RUN "$BAY_BUILD/bay" serve --port 0 board.img --times 1,1,1
+exec "$BAY_BUILD/bay" serve --port 0 board.img --times 1,1,1
 END
-export BAY_BUILD BAY_RUN
-sh serve_full >log 2>err &
-server=$!
-sleep 1
-port=$(sed -n 's/^listening on 127\.0\.0\.1:\([0-9]*\) .*/\1/p' log)
+launch sh serve_full
 answers "06 06 06 06" s:0C0200B300 r:1 s:0C0000F340 r:1 s:0C0000F30F r:1 s:0F r:1
 stop 74
 says err "  expected  "

@@ -1,0 +1,112 @@
+# Builds the proved library and the C host around it, and runs their tests.
+#
+#   make test    everything from nothing: proofs, must-fail edits, library, host tests; ends with 'N passed, 0 failed'
+#   make demo    the main job, on data of the repository
+#   make lib     the proved library as a C archive
+#   make host    the host's programs
+#   make quick   the host's tests alone, with the library that is there
+#   make fuzz    the library against the C model on random traffic, until stopped
+#   make tidy    cppcheck and clang-tidy over the host
+#   make clean
+
+BUILD   := build
+POD_LIB := target/staticlib/libpod.a
+CFLAGS  := -std=c11 -O2 -Wall -Wextra -Wconversion -Werror
+
+# The archive is for x86-64. On a machine of another kind a program is cross-compiled, and build/NAME is a script that runs
+# it under an emulator.
+MACHINE ?= $(shell uname -m)
+ifeq ($(MACHINE),x86_64)
+CC := gcc
+NM := nm
+else
+CC := tools/cross-cc
+NM := x86_64-linux-gnu-nm
+endif
+
+.PHONY: test quick lib host tests demo fuzz tidy clean
+.DELETE_ON_ERROR:
+
+test:
+	@tools/test
+
+quick:
+	@tools/test --quick
+
+# ---- The library.
+
+PROVED := $(sort $(shell find crates -name '*.rt' -o -name '*.antt'))
+
+lib: $(POD_LIB)
+
+ifndef QUICK
+$(POD_LIB): crates.txt $(PROVED)
+	rt staticlib pod
+endif
+
+# ---- The host's programs. Each is built and run once the library has the functions that it calls.
+
+FACE := ${shell sed -nE 's/^[a-z].*[ *](pod_[a-z_]+)\(.*/\1/p' host/pod.h}
+HAS  := $(if $(wildcard $(POD_LIB)),$(shell $(NM) -g --defined-only $(POD_LIB) | sed -n 's/.* T //p'))
+
+-include host/CHECK.mk
+-include host/bay/BAY.mk
+
+GROUND := pod_power_up pod_set_times pod_sheet_read pod_sheet_write pod_view pod_status pod_marks
+CLOCK  := pod_step pod_clock pod_power_up pod_set_times pod_status pod_marks
+
+# has FUNCTIONS: not empty where the library has them all.
+has = $(if $(filter-out $(HAS),$(1)),,yes)
+
+PROGRAMS := $(BUILD)/layout_test
+TESTS    := '$(BUILD)/layout_test host/pod.h $(filter %.rt,$(PROVED))'
+ifneq ($(call has,$(GROUND)),)
+PROGRAMS += $(BUILD)/ground_test
+TESTS    += $(BUILD)/ground_test
+endif
+ifneq ($(call has,$(CLOCK)),)
+PROGRAMS += $(BUILD)/step_test $(BUILD)/operation_test
+TESTS    += $(BUILD)/step_test $(BUILD)/operation_test
+endif
+ifneq ($(call has,$(FACE)),)
+PROGRAMS += $(CHECK_PROGRAMS) $(BAY_PROGRAMS)
+TESTS    += $(CHECK_TESTS) $(BAY_TESTS)
+endif
+
+$(BUILD)/layout_test: host/layout_test.c
+	@mkdir -p $(BUILD)
+	$(CC) $(CFLAGS) -o $@ $<
+
+$(BUILD)/%_test: host/%_test.c host/check.h host/rig.h host/pod.h $(POD_LIB)
+	@mkdir -p $(BUILD)
+	$(CC) $(CFLAGS) -o $@ $< $(POD_LIB)
+
+# What the library has is seen once it is built: by a make of its own.
+host: $(POD_LIB)
+	@$(MAKE) --no-print-directory programs
+
+.PHONY: programs
+programs: $(PROGRAMS)
+	$(if $(filter-out $(HAS),$(FACE)),@echo 'not in the library yet, nor tested: $(filter-out $(HAS),$(FACE))')
+
+# The commands that test the host, one to a line. Each ends what it prints with a line 'N passed, M failed'.
+tests:
+	@printf '%s\n' $(TESTS)
+
+# ---- Jobs.
+
+demo: host
+	@if [ -x $(BUILD)/bay ]; then $(BUILD)/bay demo; else $(BUILD)/ground_test; fi
+
+fuzz: host
+	$(BUILD)/diff --forever
+
+C_FILES = $(sort $(wildcard host/*.c host/bay/*.c host/bay/test/*.c))
+
+tidy:
+	@tools/setup tidy
+	cppcheck --std=c11 --enable=warning,style,performance,portability --inline-suppr --error-exitcode=1 -q -Ihost $(C_FILES)
+	clang-tidy --quiet $(C_FILES) -- -std=c11 -D_XOPEN_SOURCE=700 -Ihost -Ihost/bay
+
+clean:
+	rm -rf $(BUILD) target

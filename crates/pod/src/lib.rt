@@ -1,0 +1,59 @@
+// The C face: each function hands its arguments to the room that has the work. What C must promise is said in pod.h.
+use device::Powered;
+use record::Device;
+use sheet::Sheet;
+use view::Part;
+ghost use mathlib.Core.Path.{_≡_};
+ghost use Rattle.device.specs.Power.{poweredUp, timesSet};
+ghost use Rattle.device.specs.Told.{statusTold, marksTold};
+ghost use Rattle.sheet.specs.Sheet.{readOf, numbersOf, written, writeOf};
+ghost use Rattle.view.specs.Shown.{partShown};
+
+#[no_mangle]
+pub extern "C" fn pod_power_up(straps: u32, program: u32, slice: u32, pause: u32) -> Powered
+    ensures { λ r. ⌜ r ≡ poweredUp straps program slice pause ⌝ }
+{
+    device::power_up(straps, program, slice, pause)
+}
+
+#[no_mangle]
+pub extern "C" fn pod_set_times(device: Device, program: u32, slice: u32, pause: u32) -> Powered
+    ensures { λ r. ⌜ r ≡ timesSet device program slice pause ⌝ }
+{
+    device::set_times(device, program, slice, pause)
+}
+
+#[no_mangle]
+pub extern "C" fn pod_sheet_read(sheet: &[u8]) -> Sheet
+    ensures { λ r. ⌜ r ≡ numbersOf (readOf (now (sheet .entry))) ⌝ }
+{
+    sheet::read_numbers(sheet)
+}
+
+#[no_mangle]
+pub extern "C" fn pod_sheet_write(buffer: &mut [u8], straps: u32, program: u32, slice: u32, pause: u32) -> u32
+    ensures { λ r. ⌜ written r (now (buffer .exit)) ≡ writeOf (now (buffer .entry)) straps program slice pause ⌝ }
+{
+    sheet::write(buffer, straps, program, slice, pause)
+}
+
+#[no_mangle]
+pub extern "C" fn pod_view(device: Device, image: &[u8], page: &[u8], block: u32) -> Part
+    ensures { λ r. ⌜ r ≡ partShown device (now (image .entry)) (now (page .entry)) block ⌝ }
+{
+    view::part_shown(device, image, page, block)
+}
+
+#[no_mangle]
+pub extern "C" fn pod_status(device: Device) -> u32
+    ensures { λ r. ⌜ r ≡ statusTold device ⌝ }
+{
+    device::status_told(device)
+}
+
+#[no_mangle]
+pub extern "C" fn pod_marks(device: Device) -> u32
+    ensures { λ r. ⌜ r ≡ marksTold device ⌝ }
+{
+    device::marks_told(device)
+}
