@@ -24,7 +24,7 @@ CC := tools/cross-cc
 NM := x86_64-linux-gnu-nm
 endif
 
-.PHONY: test quick lib host tests demo fuzz tidy clean
+.PHONY: test quick lib host programs tests demo tidy clean
 .DELETE_ON_ERROR:
 
 test:
@@ -49,14 +49,12 @@ endif
 FACE := ${shell sed -nE 's/^[a-z].*[ *](pod_[a-z_]+)\(.*/\1/p' host/pod.h}
 HAS  := $(if $(wildcard $(POD_LIB)),$(shell $(NM) -g --defined-only $(POD_LIB) | sed -n 's/.* T //p'))
 
--include host/CHECK.mk
--include host/bay/BAY.mk
-
 GROUND := pod_power_up pod_set_times pod_sheet_read pod_sheet_write pod_view pod_status pod_marks
 CLOCK  := pod_step pod_clock pod_power_up pod_set_times pod_status pod_marks
 
-# has FUNCTIONS: not empty where the library has them all.
+# Not empty where the library has all of the functions.
 has = $(if $(filter-out $(HAS),$(1)),,yes)
+LACKS := $(filter-out $(HAS),$(FACE))
 
 PROGRAMS := $(BUILD)/layout_test
 TESTS    := '$(BUILD)/layout_test host/pod.h $(filter %.rt,$(PROVED))'
@@ -68,7 +66,11 @@ ifneq ($(call has,$(CLOCK)),)
 PROGRAMS += $(BUILD)/step_test $(BUILD)/operation_test
 TESTS    += $(BUILD)/step_test $(BUILD)/operation_test
 endif
-ifneq ($(call has,$(FACE)),)
+
+# The check against the model in C and the bay program bring their own rules. They call the whole face.
+-include host/CHECK.mk
+-include host/bay/BAY.mk
+ifeq ($(LACKS),)
 PROGRAMS += $(CHECK_PROGRAMS) $(BAY_PROGRAMS)
 TESTS    += $(CHECK_TESTS) $(BAY_TESTS)
 endif
@@ -85,9 +87,8 @@ $(BUILD)/%_test: host/%_test.c host/check.h host/rig.h host/pod.h $(POD_LIB)
 host: $(POD_LIB)
 	@$(MAKE) --no-print-directory programs
 
-.PHONY: programs
 programs: $(PROGRAMS)
-	$(if $(filter-out $(HAS),$(FACE)),@echo 'not in the library yet, nor tested: $(filter-out $(HAS),$(FACE))')
+	$(if $(LACKS),@echo 'not in the library yet and so not tested: $(LACKS)')
 
 # The commands that test the host, one to a line. Each ends what it prints with a line 'N passed, M failed'.
 tests:
@@ -97,9 +98,6 @@ tests:
 
 demo: host
 	@if [ -x $(BUILD)/bay ]; then $(BUILD)/bay demo; else $(BUILD)/ground_test; fi
-
-fuzz: host
-	$(BUILD)/diff --forever
 
 C_FILES = $(sort $(wildcard host/*.c host/bay/*.c host/bay/test/*.c))
 

@@ -350,7 +350,8 @@ static inline uint32_t is_sound(const struct pod_device *device)
         if (device->locks[block] > 7)
             return 0;
     return device->straps <= MOST_STRAPS && times_in_range(numbers_of(device->times))
-        && controller->mode <= MODE_SIGNATURE && (controller->errors & ~ERROR_BITS) == 0 && frame_is_sound(device->frame)
+        && controller->mode <= MODE_SIGNATURE && (controller->errors & ~ERROR_BITS) == 0
+        && frame_is_sound(device->frame)
         && (controller->outer.kind == NO_OPERATION || operation_is_sound(controller->outer))
         && inner_is_sound(device) && setup_is_sound(device);
 }
@@ -367,13 +368,20 @@ static inline uint32_t status_of(const struct pod_device *device)
         | controller->errors;
 }
 
+/* Every lock register of the device gets the same value. */
+static inline void set_locks(struct pod_device *device, uint32_t value)
+{
+    for (size_t block = 0; block < POD_BLOCKS; block++)
+        device->locks[block] = (uint8_t)value;
+}
+
 /* A device as step 1 leaves it, with no operation and no marks. */
 static inline struct pod_device fresh_device(uint32_t straps, struct pod_times times)
 {
     struct pod_device device;
     memset(&device, 0, sizeof device);
     device.straps = (uint8_t)straps;
-    memset(device.locks, LOCKED, sizeof device.locks);
+    set_locks(&device, LOCKED);
     device.times = times;
     return device;
 }

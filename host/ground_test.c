@@ -451,7 +451,7 @@ static void test_views(void)
             for (uint32_t lock = 0; lock < 8; lock++) {
                 device = device_in(condition);
                 device.controller.mode = (uint8_t)(lock % 3);
-                memset(device.locks, 7 - (int)lock, sizeof device.locks);
+                set_locks(&device, 7 - lock);
                 device.locks[block] = (uint8_t)lock;
                 test_view(&device, POD_IMAGE_BYTES, &page, POD_BLOCK_BYTES, block, shown(&device, block));
             }
@@ -471,7 +471,7 @@ static void test_views(void)
     static const size_t page_lengths[] = { 0, 1, 256, 65535, 65537, 131072 };
     for (uint32_t lock = 0; lock < 8; lock++) {
         device = device_in(READY);
-        memset(device.locks, (int)lock, sizeof device.locks);
+        set_locks(&device, lock);
         for (size_t i = 0; i < sizeof image_lengths / sizeof image_lengths[0]; i++)
             for (uint32_t block = 0; block < POD_BLOCKS; block += 5)
                 test_view(&device, image_lengths[i], &page, POD_BLOCK_BYTES, block, FROM_NOTHING);
@@ -479,7 +479,7 @@ static void test_views(void)
 
     check_group("view: a block above 15 shows nothing");
     for (uint32_t lock = 0; lock < 8; lock += 4) {
-        memset(device.locks, (int)lock, sizeof device.locks);
+        set_locks(&device, lock);
         for (size_t i = 0; i < NUMBER_COUNT; i++)
             if (NUMBERS[i] >= POD_BLOCKS)
                 test_view(&device, POD_IMAGE_BYTES, &page, POD_BLOCK_BYTES, NUMBERS[i], FROM_NOTHING);
@@ -489,7 +489,7 @@ static void test_views(void)
     struct lent longer = lend(131072);
     fill(&longer, 0, longer.length, 0);
     for (uint32_t lock = 0; lock < 8; lock++) {
-        memset(device.locks, (int)lock, sizeof device.locks);
+        set_locks(&device, lock);
         for (size_t i = 0; i < sizeof page_lengths / sizeof page_lengths[0]; i++)
             test_view(&device, POD_IMAGE_BYTES, &longer, page_lengths[i], 3, FROM_NOTHING);
         test_view(&device, POD_IMAGE_BYTES, &longer, POD_BLOCK_BYTES, 3, shown(&device, 3));
@@ -501,7 +501,7 @@ static void test_views(void)
     for (uint32_t lock = 0; lock < 8; lock += 4)
         for (size_t i = 0; i < sizeof places / sizeof places[0]; i++)
             for (size_t j = 0; j < sizeof values; j++) {
-                memset(device.locks, (int)lock, sizeof device.locks);
+                set_locks(&device, lock);
                 fill(&longer, places[i], 1, values[j]);
                 test_view(&device, POD_IMAGE_BYTES, &longer, POD_BLOCK_BYTES, 9,
                           places[i] < POD_BLOCK_BYTES ? FROM_NOTHING : shown(&device, 9));

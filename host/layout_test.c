@@ -199,19 +199,20 @@ static unsigned take_count(void)
 /* A type, as Rattle would name it: uint8_t is u8, struct pod_times is Times. */
 static void take_c_type(char type[NAME])
 {
+    static const char *const numbers[][2] = {
+        { "uint8_t", "u8" }, { "uint16_t", "u16" }, { "uint32_t", "u32" }, { "uint64_t", "u64" }, { "size_t", "usize" }
+    };
     char name[NAME];
     take("const");
     const int is_struct = take("struct");
     take_name(name);
     const char *plain = strncmp(name, "pod_", 4) == 0 ? name + 4 : name;
-    unsigned bits;
-    char tail;
+    snprintf(type, NAME, "%s", plain);
     if (is_struct)
-        snprintf(type, NAME, "%c%s", toupper((unsigned char)plain[0]), plain + 1);
-    else if (sscanf(name, "uint%u_%c", &bits, &tail) == 2 && tail == 't')
-        snprintf(type, NAME, "u%u", bits);
-    else
-        snprintf(type, NAME, "%s", strcmp(name, "size_t") == 0 ? "usize" : name);
+        type[0] = (char)toupper((unsigned char)type[0]);
+    for (size_t i = 0; i < sizeof numbers / sizeof numbers[0]; i++)
+        if (!is_struct && strcmp(name, numbers[i][0]) == 0)
+            snprintf(type, NAME, "%s", numbers[i][1]);
 }
 
 static void take_c_struct(const char *type)

@@ -23,14 +23,14 @@ static void test_permission(const char *name, enum condition condition, uint8_t 
     static const uint32_t classes[] = { CLASS_0, CLASS_1, CLASS_2 };
     check_group(name);
     for (uint32_t block = 0; block < POD_BLOCKS; block++)
-        for (uint8_t lock = 0; lock < 8; lock++)
+        for (uint32_t lock = 0; lock < 8; lock++)
             for (uint32_t i = 0; i < 12; i++) {
                 struct pod_device device = device_in(condition);
                 const uint32_t pins = ((i & 1) != 0 ? TBL : 0u) | ((i & 2) != 0 ? WP : 0u) | classes[i / 4];
                 device.controller.setup = setup;
                 device.controller.errors = lock == 0 ? 0x20 : 0x00;
-                memset(device.locks, 7 - lock, sizeof device.locks);
-                device.locks[block] = lock;
+                set_locks(&device, 7 - lock);
+                device.locks[block] = (uint8_t)lock;
                 test_setup(device, FRAME_LINE | RP | INIT | pins, block * POD_BLOCK_BYTES + block * 4099, data);
             }
 }
@@ -44,11 +44,11 @@ static void test_setups(void)
 
     check_group("setups: every byte behind a program setup is data, and behind an erase setup D0h alone confirms");
     for (uint32_t data = 0; data < 256; data++)
-        for (uint8_t setup = SETUP_PROGRAM; setup <= SETUP_ERASE; setup++)
-            for (uint8_t lock = 0; lock < 2; lock++) {
+        for (uint32_t setup = SETUP_PROGRAM; setup <= SETUP_ERASE; setup++)
+            for (uint32_t lock = 0; lock < 2; lock++) {
                 struct pod_device device = device_in(READY);
-                device.controller.setup = setup;
-                device.locks[2] = lock;
+                device.controller.setup = (uint8_t)setup;
+                device.locks[2] = (uint8_t)lock;
                 test_setup(device, PINS, 0x2FFFF, data);
                 test_setup(device, PINS & ~(uint32_t)CLASS_3, 0x2FFFF, data);
             }
@@ -94,7 +94,7 @@ static void test_error_bits(void)
 
     check_group("error bits: a program into the suspended block sets bit 4 and leaves the erase suspended");
     struct pod_device device = device_in(ERASE_SUSPENDED);
-    memset(device.locks, 0, sizeof device.locks);
+    set_locks(&device, 0);
     set_device(device);
     write_at(ARRAY, 0x40);
     write_at(ARRAY + 0x7FFFF, 0x00);
@@ -393,9 +393,9 @@ static void test_reads_at_ends(void)
 {
     check_group("clock 15 fixes what is read: an operation that ends on each clock of a read");
     for (uint32_t ends = 1; ends <= READ_CLOCKS + 1; ends++)
-        for (uint8_t mode = MODE_ARRAY; mode <= MODE_STATUS; mode++) {
-            test_read_at_end(ends, PROGRAM_RUNS, mode);
-            test_read_at_end(ends, ERASE_RUNS, mode);
+        for (uint32_t mode = MODE_ARRAY; mode <= MODE_STATUS; mode++) {
+            test_read_at_end(ends, PROGRAM_RUNS, (uint8_t)mode);
+            test_read_at_end(ends, ERASE_RUNS, (uint8_t)mode);
         }
     check_group("clock 15 fixes the status: a pause that ends on each clock of a read");
     for (uint32_t ends = 1; ends <= READ_CLOCKS + 1; ends++)
@@ -484,7 +484,7 @@ static void test_resets_of_operations(void)
                 for (uint32_t mark = 0; mark <= 16; mark++) {
                     struct pod_device device = device_in(condition);
                     struct pod_controller *controller = &device.controller;
-                    memset(device.locks, (int)(mark % 8), sizeof device.locks);
+                    set_locks(&device, mark % 8);
                     controller->marks = (uint16_t)(1u << mark & 0xFFFF);
                     controller->errors = mark % 2 == 0 ? ERROR_BITS : 0x00;
                     controller->mode = (uint8_t)(mark % 3);
@@ -499,9 +499,9 @@ static void test_resets_of_operations(void)
     }
     check_group("reset: a setup is dropped");
     for (size_t i = 0; i < RESET_COUNT; i++)
-        for (uint8_t setup = SETUP_PROGRAM; setup <= SETUP_ERASE; setup++) {
+        for (uint32_t setup = SETUP_PROGRAM; setup <= SETUP_ERASE; setup++) {
             struct pod_device device = device_in(READY);
-            device.controller.setup = setup;
+            device.controller.setup = (uint8_t)setup;
             test_reset_of(device, RESETS[i]);
         }
 }

@@ -267,16 +267,16 @@ static void test_modes(void)
         char name[96];
         snprintf(name, sizeof name, "modes: array, status and signature, %s", CONDITION_NAMES[condition]);
         check_group(name);
-        for (uint8_t mode = MODE_ARRAY; mode <= MODE_SIGNATURE; mode++)
-            for (uint8_t lock = 0; lock < 8; lock++)
+        for (uint32_t mode = MODE_ARRAY; mode <= MODE_SIGNATURE; mode++)
+            for (uint32_t lock = 0; lock < 8; lock++)
                 for (size_t i = 0; i < sizeof places / sizeof places[0]; i++) {
                     struct pod_device device = device_in(condition);
-                    device.controller.mode = mode;
+                    device.controller.mode = (uint8_t)mode;
                     device.controller.errors = lock % 2 == 0 ? 0x00 : 0x28;
-                    memset(device.locks, lock, sizeof device.locks);
+                    set_locks(&device, lock);
                     set_device(device);
                     expect(array_value(&device, places[i]), read_at(above[(i + lock) % 5] + places[i]),
-                           "mode %d, lock %d, read of %X", mode, lock, places[i]);
+                           "mode %u, lock %u, read of %X", mode, lock, places[i]);
                     const struct pod_device after = counted(device, READ_CLOCKS);
                     same_meaning(&after, &now, "the device after an array read");
                 }
@@ -304,11 +304,11 @@ static void test_commands(void)
         char name[96];
         snprintf(name, sizeof name, "commands: each byte in each mode, %s", CONDITION_NAMES[condition]);
         check_group(name);
-        for (uint8_t mode = MODE_ARRAY; mode <= MODE_SIGNATURE; mode++)
+        for (uint32_t mode = MODE_ARRAY; mode <= MODE_SIGNATURE; mode++)
             for (uint32_t command = 0; command < 256; command++)
                 for (uint32_t errors = 0; errors <= ERROR_BITS; errors += ERROR_BITS) {
                     struct pod_device device = device_in(condition);
-                    device.controller.mode = mode;
+                    device.controller.mode = (uint8_t)mode;
                     device.controller.errors = (uint8_t)errors;
                     set_device(device);
                     write_at(ARRAY + 0x34567 * (command % 2), command);

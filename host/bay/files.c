@@ -1,6 +1,7 @@
 /* Reading whole files, and replacing them whole or not at all. */
 #include "files.h"
 
+#include "signals.h"
 #include "text.h"
 #include "trouble.h"
 
@@ -102,25 +103,17 @@ static void on_signal(int number)
 static const int ending[] = { SIGINT, SIGTERM, SIGHUP, SIGPIPE };
 enum { ENDINGS = sizeof ending / sizeof ending[0] };
 
-/* Takes over those signals that would end the program, and no others. */
-static void guard(struct sigaction *before)
+static void guard(void)
 {
-    struct sigaction act;
-    memset(&act, 0, sizeof act);
-    act.sa_handler = on_signal;
-    act.sa_flags = (int)(SA_RESETHAND | SA_NODEFER);
-    (void)sigemptyset(&act.sa_mask);
     for (size_t i = 0; i < ENDINGS; i++) {
-        if (sigaction(ending[i], NULL, &before[i]) == 0 && before[i].sa_handler == SIG_DFL) {
-            (void)sigaction(ending[i], &act, NULL);
-        }
+        (void)signal_take(ending[i], on_signal, (int)(SA_RESETHAND | SA_NODEFER));
     }
 }
 
-static void unguard(const struct sigaction *before)
+static void unguard(void)
 {
     for (size_t i = 0; i < ENDINGS; i++) {
-        (void)sigaction(ending[i], &before[i], NULL);
+        signal_give_back(ending[i], on_signal);
     }
 }
 
@@ -280,9 +273,7 @@ static int write_standard(int file, const struct output *output)
 
 int deliver(const struct output *outputs, size_t count)
 {
-    struct sigaction before[ENDINGS];
-    memset(before, 0, sizeof before);
-    guard(before);
+    guard();
     int status = 0;
     bool taken = false;
     for (size_t i = 0; i < count && i < DRAFTS && status == 0; i++) {
@@ -303,6 +294,6 @@ int deliver(const struct output *outputs, size_t count)
         status = keep_drafts();
     }
     drop_drafts();
-    unguard(before);
+    unguard();
     return status;
 }

@@ -3,6 +3,7 @@
 #include "files.h"
 #include "load.h"
 #include "options.h"
+#include "signals.h"
 #include "text.h"
 #include "track.h"
 #include "trouble.h"
@@ -109,9 +110,9 @@ static _Noreturn void bay_process(const struct rack *rack, struct bay *bay)
     int length = snprintf(speaker, sizeof speaker, "bay rack: bay %u", bay->number);
     trouble_speaker(length > 0 ? speaker : "bay rack");
     trouble_into(outcome->words, sizeof outcome->words);
-    (void)signal(SIGINT, SIG_DFL);
-    (void)signal(SIGTERM, SIG_DFL);
-    (void)signal(SIGHUP, SIG_DFL);
+    signal_give_back(SIGINT, on_signal);
+    signal_give_back(SIGTERM, on_signal);
+    signal_give_back(SIGHUP, on_signal);
     (void)alarm(rack->seconds);
     run_bay(rack, bay->number, outcome);
     _exit(write(bay->pipe, outcome, sizeof *outcome) == (ssize_t)sizeof *outcome ? 0 : 1);
@@ -261,27 +262,24 @@ static void tell_troubles(const struct bay *bays)
 static int check_folder(const char *path)
 {
     struct stat about;
-    if (stat(path, &about) == 0 && S_ISDIR(about.st_mode)) {
+    bool there = stat(path, &about) == 0;
+    if (there && S_ISDIR(about.st_mode)) {
         return 0;
     }
     return trouble(TROUBLE_NO_INPUT, "%s is no folder\n"
                                      "  expected  a folder that is there\n"
                                      "  found     %s\n"
                                      "  do        make it, or name another",
-                   path, errno == 0 ? "a file" : strerror(errno));
+                   path, there ? "something that is no folder" : strerror(errno));
 }
 
 static int run_rack(const struct rack *rack)
 {
     static struct bay bays[BAYS];
-    struct sigaction act;
-    memset(&act, 0, sizeof act);
-    act.sa_handler = on_signal;
-    (void)sigemptyset(&act.sa_mask);
-    (void)sigaction(SIGINT, &act, NULL);
-    (void)sigaction(SIGTERM, &act, NULL);
-    (void)sigaction(SIGHUP, &act, NULL);
     int status = 0;
+    (void)signal_take(SIGINT, on_signal, 0);
+    (void)signal_take(SIGTERM, on_signal, 0);
+    (void)signal_take(SIGHUP, on_signal, 0);
     for (unsigned i = 0; i < BAYS && status == 0; i++) {
         bays[i].number = i + 1;
         bays[i].pipe = -1;

@@ -6,6 +6,7 @@
 #include "options.h"
 #include "sample.h"
 #include "serprog.h"
+#include "signals.h"
 #include "text.h"
 #include "trouble.h"
 #include "words.h"
@@ -76,15 +77,12 @@ static int no_server(const char *what, int error)
 /* SIGINT, SIGTERM and SIGHUP end the server after it has saved; a client that is gone is no signal. */
 static int catch_signals(void)
 {
-    struct sigaction act;
-    memset(&act, 0, sizeof act);
-    act.sa_handler = on_signal;
-    (void)sigemptyset(&act.sa_mask);
-    if (pipe(stop_pipe) != 0 || fcntl(stop_pipe[1], F_SETFL, O_NONBLOCK) != 0 || sigaction(SIGINT, &act, NULL) != 0 ||
-        sigaction(SIGTERM, &act, NULL) != 0 || sigaction(SIGHUP, &act, NULL) != 0 ||
-        signal(SIGPIPE, SIG_IGN) == SIG_ERR) {
+    if (pipe(stop_pipe) != 0 || fcntl(stop_pipe[1], F_SETFL, O_NONBLOCK) != 0 || signal(SIGPIPE, SIG_IGN) == SIG_ERR) {
         return no_server("listen for signals", errno);
     }
+    (void)signal_take(SIGINT, on_signal, 0);
+    (void)signal_take(SIGTERM, on_signal, 0);
+    (void)signal_take(SIGHUP, on_signal, 0);
     return 0;
 }
 

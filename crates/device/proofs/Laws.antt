@@ -1,12 +1,11 @@
 -- Power up and set times: which number each gives, that the device which comes back is sound, and that set times
 -- touches nothing but the times that later operations take. Assumes nothing.
 use mathlib.Core.Path.{_≡_, refl}
-use mathlib.Core.Bool.{Bool, true, false, cond}
-use mathlib.Core.List.{[], _∷_}
+use mathlib.Core.Bool.{true}
 use mathlib.Core.Logic.{_⊎_, inl, inr}
 use Prim.Native.Nat.{ℕ, _<_, _≤_}
 use native.Mathlib.Omega.{arith}
-use borrow.Author.Tests.{lt-ltb, le-ltb, ltb-false}
+use borrow.Author.Tests.{lt-ltb, ltb-false}
 use lib.Dec.{ltb}
 use Rattle.laws.specs.All.{all}
 use Rattle.laws.proofs.All.{holds, also, none}
@@ -15,7 +14,6 @@ use Rattle.units.specs.declared.Times.{Times}
 use Rattle.units.specs.Units.{times, timesFit, within}
 use Rattle.record.specs.declared.Device.{Device}
 use Rattle.part.specs.Fresh.{freshOf}
-use Rattle.device.specs.declared.Powered.{Powered}
 use Rattle.device.specs.Status.{conditionOf}
 use Rattle.device.specs.Sound.{frameFits, outerFits, innerFits, controllerFits, soundOf}
 use Rattle.device.specs.Power.{powered, refusal, poweredUp, withTimes, timesSet}
@@ -35,10 +33,10 @@ module _ (straps program slice pause : ℕ) where
   unfolding poweredUp
   powered-sound =
       elim (ask (ltb 15 straps)) [
-        yes e ↦ rw e (refusal-sound 3)
+        | yes e ↦ rw e (refusal-sound 3)
         | no e ↦ elim (ask (timesFit (times program slice pause))) [
-          yes f ↦ let h : straps ≤ 15 = ltb-false 15 straps e in
-            rw (e, f) (fresh-sound straps (times program slice pause) (omega arith) f)
+          | yes f ↦ let h : straps ≤ 15 = ltb-false 15 straps e in
+              rw (e, f) (fresh-sound straps (times program slice pause) (omega arith) f)
           | no f ↦ rw (e, f) (refusal-sound 4)
         ]
       ]
@@ -49,7 +47,7 @@ module _ (straps program slice pause : ℕ) where
   unfolding poweredUp refusal
   power-numbers =
       elim (ask (ltb 15 straps)) [
-        yes e ↦ inr (inl (rw e))
+        | yes e ↦ inr (inl (rw e))
         | no e ↦ elim (ask (timesFit (times program slice pause))) [ yes f ↦ inl (rw (e, f)) | no f ↦ inr (inr (rw (e, f))) ]
       ]
 
@@ -66,8 +64,8 @@ module _ (d : Device) (program slice pause : ℕ) where
   unfolding timesSet
   set-keeps =
       elim (ask (soundOf d)) [
-        yes e ↦ elim (ask (timesFit (times program slice pause))) [
-          yes f ↦ rw (e, f) (record { straps = refl; locks = refl; frame = refl; controller = refl })
+        | yes e ↦ elim (ask (timesFit (times program slice pause))) [
+          | yes f ↦ rw (e, f) (record { straps = refl; locks = refl; frame = refl; controller = refl })
           | no f ↦ rw (e, f) (record { straps = refl; locks = refl; frame = refl; controller = refl })
         ]
         | no e ↦ rw e (record { straps = refl; locks = refl; frame = refl; controller = refl })
@@ -84,7 +82,7 @@ module _ (d : Device) (program slice pause : ℕ) where
   unfolding timesSet
   set-refused n =
       elim (ask (soundOf d)) [
-        yes e ↦ elim (ask (timesFit (times program slice pause))) [ yes f ↦ absurd (n (rw (e, f))) | no f ↦ rw (e, f) ]
+        | yes e ↦ elim (ask (timesFit (times program slice pause))) [ yes f ↦ absurd (n (rw (e, f))) | no f ↦ rw (e, f) ]
         | no e ↦ rw e
       ]
 
@@ -93,7 +91,7 @@ module _ (d : Device) (program slice pause : ℕ) where
   unfolding timesSet
   set-numbers =
       elim (ask (soundOf d)) [
-        yes e ↦ elim (ask (timesFit (times program slice pause))) [ yes f ↦ inl (rw (e, f)) | no f ↦ inr (inr (rw (e, f))) ]
+        | yes e ↦ elim (ask (timesFit (times program slice pause))) [ yes f ↦ inl (rw (e, f)) | no f ↦ inr (inr (rw (e, f))) ]
         | no e ↦ inr (inl (rw e))
       ]
 
@@ -107,6 +105,6 @@ module _ (d : Device) (program slice pause : ℕ) where
     unfolding timesSet
     set-sound =
         elim (ask (timesFit (times program slice pause))) [
-          yes f ↦ rw (e, f) (with-times-sound (times program slice pause) f)
+          | yes f ↦ rw (e, f) (with-times-sound (times program slice pause) f)
           | no f ↦ rw (e, f) e
         ]

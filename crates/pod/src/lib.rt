@@ -31,7 +31,13 @@ pub extern "C" fn pod_sheet_read(sheet: &[u8]) -> Sheet
 }
 
 #[no_mangle]
-pub extern "C" fn pod_sheet_write(buffer: &mut [u8], straps: u32, program: u32, slice: u32, pause: u32) -> u32
+pub extern "C" fn pod_sheet_write(
+    buffer: &mut [u8],
+    straps: u32,
+    program: u32,
+    slice: u32,
+    pause: u32,
+) -> u32
     ensures { λ r. ⌜ written r (now (buffer .exit)) ≡ writeOf (now (buffer .entry)) straps program slice pause ⌝ }
 {
     sheet::write(buffer, straps, program, slice, pause)

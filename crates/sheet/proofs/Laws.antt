@@ -1,21 +1,19 @@
 -- Reading what was written gives the values back, and writing what was read gives the bytes back. Assumes nothing.
-use mathlib.Core.Path.{_≡_, _∙_, sym, refl, ap}
+use mathlib.Core.Path.{_≡_, _∙_, refl}
 use mathlib.Core.Bool.{Bool, true, false, cond}
 use mathlib.Core.List.{List, [], _∷_, _++_}
 use Prim.Native.Nat.{ℕ, _<_, _≤_}
 use native.Mathlib.Omega.{arith}
-use borrow.Author.Tests.{le-ltb, ltb-false, eqb-true}
+use borrow.Author.Tests.{le-ltb, ltb-false}
 use lib.Dec.{ltb}
 use lib.ListN.{length, getD, take, drop}
 use lib.Seq.{take-at}
 use Rattle.laws.specs.All.{all}
 use Rattle.laws.proofs.All.{holds}
-use Rattle.laws.proofs.Rules.{cases, Answer, ask, yes, no}
 use Rattle.units.specs.declared.Times.{Times}
 use Rattle.units.specs.Units.{times, timesFit}
-use Rattle.sheet.specs.declared.Reading.{Reading}
 use Rattle.sheet.specs.declared.Reading.the-variants.{Holds, BadLayout, BadStraps, BadTimes}
-use Rattle.sheet.specs.Sheet.{laid, two, twoAt, fieldAt, ofLayout, strapsIn, timesIn, readOf, Written, written, writeOf}
+use Rattle.sheet.specs.Sheet.{laid, twoAt, fieldAt, ofLayout, strapsIn, timesIn, readOf, written, writeOf}
 use Rattle.sheet.proofs.Places.{thirteen, head, spelled, halves, halved}
 
 -- document 01's example

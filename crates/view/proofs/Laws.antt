@@ -1,9 +1,9 @@
 -- The numbers name what is shown; what is shown is a block's length, and zeros where the block is read-locked.
 -- Assumes nothing.
-use mathlib.Core.Path.{_≡_, _∙_, refl, ap}
-use mathlib.Core.Bool.{Bool, true, false, cond, _&&_}
+use mathlib.Core.Path.{_≡_, refl}
+use mathlib.Core.Bool.{Bool, true, false, cond}
 use mathlib.Core.List.{List, [], _∷_}
-use Prim.Native.Nat.{ℕ, zero, suc, _*_, _+_, _≤_}
+use Prim.Native.Nat.{ℕ, zero, suc, _*_}
 use native.Mathlib.Omega.{arith}
 use borrow.Author.Tests.{eqb-true}
 use lib.Dec.{eqb}
@@ -55,7 +55,7 @@ module _ (d : Device) (image page : List ℕ) (block : ℕ) where
     shown-length =
         let g = ready d image page block e in
         elim (ask (readLocked d block)) [
-          yes l ↦ rw (shown-locked l) (g .long)
+          | yes l ↦ rw (shown-locked l) (g .long)
           | no l ↦ rw (shown-open l) (length-take-le 65536 (drop (block * 65536) image) (rw length-drop (omega arith)))
         ]
 

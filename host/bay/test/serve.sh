@@ -104,6 +104,23 @@ says log "the client wrote more bytes at once than it was told"
 stop 0
 same board.img kept.img
 
+case_ "a client that asks and does not listen is ended too"
+start board.img --idle 1
+poke "$port" "s:$(yes 0A0000F3000001 | head -n 300 | tr -d '\n')" w:2500
+tries=0
+until grep -q '^client 1 ends' log || [ $tries -ge 200 ]; do
+    sleep 0.05
+    tries=$((tries + 1))
+done
+says log "the client was silent too long"
+answers 065A s:090000F3 r:2
+stop 0
+
+case_ "the device select of the frames is the straps' number"
+start board.img --straps 3 --once
+answers 0620 s:090000BC r:2
+ended $server
+
 case_ "one client at a time; the next one waits its turn"
 start board.img
 poke "$port" s:00 r:1 w:700 s:00 r:1 >first &
@@ -185,7 +202,7 @@ gives 64 bay serve --port http board.img
 explains
 
 case_ "SIGINT ends the server too, in the middle of a client, and what was written is saved"
-start board.img --times 1,1,1
+launch env --default-signal=INT "$BAY_BUILD/bay" serve --port 0 board.img --times 1,1,1
 "$BAY_BUILD/poke" "$port" s:0C0200B300 r:1 s:0C0000F340 r:1 s:0C0000F30F r:1 s:0F r:1 e >first 2>&1 &
 other=$!
 tries=0
