@@ -13,8 +13,8 @@ BUILD   := build
 POD_LIB := target/staticlib/libpod.a
 CFLAGS  := -std=c11 -O2 -Wall -Wextra -Wconversion -Werror
 
-# The archive is for x86-64. On a machine of another kind a program is cross-compiled, and build/NAME is a script that runs
-# it under an emulator.
+# The archive is for x86-64. On a machine of another kind a program is cross-compiled, and build/NAME is a script that
+# runs it under an emulator.
 MACHINE ?= $(shell uname -m)
 ifeq ($(MACHINE),x86_64)
 CC := gcc
@@ -24,7 +24,7 @@ CC := tools/cross-cc
 NM := x86_64-linux-gnu-nm
 endif
 
-.PHONY: test quick lib host programs tests demo tidy clean
+.PHONY: test quick lib setup host programs tests needs demo tidy clean
 .DELETE_ON_ERROR:
 
 test:
@@ -39,10 +39,16 @@ PROVED := $(sort $(shell find crates -name '*.rt' -o -name '*.antt'))
 
 lib: $(POD_LIB)
 
-ifndef QUICK
-$(POD_LIB): crates.txt $(PROVED)
+ifdef QUICK
+$(POD_LIB):
+	@echo "expected a library at $@, found none: make lib builds it" >&2; exit 1
+else
+$(POD_LIB): crates.txt $(PROVED) | setup
 	rt staticlib pod
 endif
+
+setup:
+	@tools/setup build
 
 # ---- The host's programs. Each is built and run once the library has the functions that it calls.
 
@@ -56,8 +62,12 @@ CLOCK  := pod_step pod_clock pod_power_up pod_set_times pod_status pod_marks
 has = $(if $(filter-out $(HAS),$(1)),,yes)
 LACKS := $(filter-out $(HAS),$(FACE))
 
+# Becomes --whole once the library has the whole face: from then on a function that is missing is a fault.
+WHOLE :=
+
+NEEDS    := build
 PROGRAMS := $(BUILD)/layout_test
-TESTS    := '$(BUILD)/layout_test host/pod.h $(filter %.rt,$(PROVED))'
+TESTS    := '$(BUILD)/layout_test $(WHOLE) host/pod.h $(filter %.rt,$(PROVED))'
 ifneq ($(call has,$(GROUND)),)
 PROGRAMS += $(BUILD)/ground_test
 TESTS    += $(BUILD)/ground_test
@@ -67,10 +77,15 @@ PROGRAMS += $(BUILD)/step_test $(BUILD)/operation_test
 TESTS    += $(BUILD)/step_test $(BUILD)/operation_test
 endif
 
-# The check against the model in C and the bay program bring their own rules. They call the whole face.
+# The check against the model in C and the bay program bring their own rules, and call the whole face.
 -include host/CHECK.mk
 -include host/bay/BAY.mk
 ifeq ($(LACKS),)
+ifneq ($(wildcard host/CHECK.mk),)
+CHECK_PROGRAMS ?= $(BUILD)/diff $(BUILD)/case
+CHECK_TESTS    ?= '$(BUILD)/case $(CHECK_CASES)' $(BUILD)/diff
+endif
+NEEDS    += $(if $(BAY_TESTS),bay tidy)
 PROGRAMS += $(CHECK_PROGRAMS) $(BAY_PROGRAMS)
 TESTS    += $(CHECK_TESTS) $(BAY_TESTS)
 endif
@@ -84,27 +99,32 @@ $(BUILD)/%_test: host/%_test.c host/check.h host/rig.h host/pod.h $(POD_LIB)
 	$(CC) $(CFLAGS) -o $@ $< $(POD_LIB)
 
 # What the library has is seen once it is built: by a make of its own.
-host: $(POD_LIB)
+host: $(POD_LIB) | setup
 	@$(MAKE) --no-print-directory programs
 
 programs: $(PROGRAMS)
 	$(if $(LACKS),@echo 'not in the library yet and so not tested: $(LACKS)')
 
-# The commands that test the host, one to a line. Each ends what it prints with a line 'N passed, M failed'.
+# The commands that test the host, one to a line, each ending what it prints with a line 'N passed, M failed'; and the
+# groups of packages that they need. In TESTS a command is one word of the shell, so one with arguments is quoted.
 tests:
 	@printf '%s\n' $(TESTS)
+
+needs:
+	@echo $(NEEDS)
 
 # ---- Jobs.
 
 demo: host
 	@if [ -x $(BUILD)/bay ]; then $(BUILD)/bay demo; else $(BUILD)/ground_test; fi
 
-C_FILES = $(sort $(wildcard host/*.c host/bay/*.c host/bay/test/*.c))
+C_FILES    = $(sort $(wildcard host/*.c host/bay/*.c host/bay/test/*.c))
+TIDY_FLAGS := -D_XOPEN_SOURCE=700 -Ihost -Ihost/bay
 
 tidy:
 	@tools/setup tidy
-	cppcheck --std=c11 --enable=warning,style,performance,portability --inline-suppr --error-exitcode=1 -q -Ihost $(C_FILES)
-	clang-tidy --quiet $(C_FILES) -- -std=c11 -D_XOPEN_SOURCE=700 -Ihost -Ihost/bay
+	cppcheck -q --std=c11 --enable=warning,style,performance,portability --error-exitcode=1 $(TIDY_FLAGS) $(C_FILES)
+	clang-tidy --quiet $(C_FILES) -- -std=c11 $(TIDY_FLAGS)
 
 clean:
 	rm -rf $(BUILD) target

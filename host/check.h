@@ -117,13 +117,14 @@ struct lent {
 
 static inline struct lent lend(size_t length)
 {
-    uint8_t *whole = malloc(length + 2 * GUARD_BYTES);
+    const size_t guarded = GUARD_BYTES + length + GUARD_BYTES;
+    uint8_t *whole = malloc(guarded);
     uint8_t *wanted = malloc(length + 1);
     if (whole == NULL || wanted == NULL) {
         fprintf(stderr, "no memory for a buffer of %zu bytes\n", length);
         exit(EXIT_FAILURE);
     }
-    memset(whole, GUARD, length + 2 * GUARD_BYTES);
+    memset(whole, GUARD, guarded);
     memset(wanted, GUARD, length + 1);
     return (struct lent){ .bytes = whole + GUARD_BYTES, .wanted = wanted, .length = length };
 }
@@ -180,10 +181,6 @@ struct field {
 };
 
 #define FIELD(path) { #path, offsetof(struct pod_device, path), sizeof(((struct pod_device *)0)->path) }
-#define FIELDS_OF_TIMES(path) FIELD(path.program), FIELD(path.slice), FIELD(path.pause)
-#define FIELDS_OF_OPERATION(path) \
-    FIELD(path.kind), FIELD(path.state), FIELD(path.data), FIELD(path.address), FIELD(path.slices), FIELD(path.left), \
-    FIELD(path.pause), FIELDS_OF_TIMES(path.times)
 
 static const struct field FIELDS[] = {
     FIELD(straps),
@@ -191,11 +188,17 @@ static const struct field FIELDS[] = {
     FIELD(locks[4]), FIELD(locks[5]), FIELD(locks[6]), FIELD(locks[7]),
     FIELD(locks[8]), FIELD(locks[9]), FIELD(locks[10]), FIELD(locks[11]),
     FIELD(locks[12]), FIELD(locks[13]), FIELD(locks[14]), FIELD(locks[15]),
-    FIELDS_OF_TIMES(times),
+    FIELD(times.program), FIELD(times.slice), FIELD(times.pause),
     FIELD(frame.kind), FIELD(frame.clock), FIELD(frame.byte), FIELD(frame.address),
     FIELD(controller.mode), FIELD(controller.errors), FIELD(controller.setup), FIELD(controller.marks),
-    FIELDS_OF_OPERATION(controller.outer),
-    FIELDS_OF_OPERATION(controller.inner)
+    FIELD(controller.outer.kind), FIELD(controller.outer.state), FIELD(controller.outer.data),
+    FIELD(controller.outer.address), FIELD(controller.outer.slices), FIELD(controller.outer.left),
+    FIELD(controller.outer.pause), FIELD(controller.outer.times.program),
+    FIELD(controller.outer.times.slice), FIELD(controller.outer.times.pause),
+    FIELD(controller.inner.kind), FIELD(controller.inner.state), FIELD(controller.inner.data),
+    FIELD(controller.inner.address), FIELD(controller.inner.slices), FIELD(controller.inner.left),
+    FIELD(controller.inner.pause), FIELD(controller.inner.times.program),
+    FIELD(controller.inner.times.slice), FIELD(controller.inner.times.pause)
 };
 enum { FIELD_COUNT = sizeof FIELDS / sizeof FIELDS[0] };
 
@@ -237,7 +240,7 @@ static inline void set_field(struct pod_device *device, size_t field, uint32_t v
 }
 
 /* Whether two devices are the same in every field. What lies between the fields is nobody's. */
-static inline int same_device(const struct pod_device *wanted, const struct pod_device *found, const char *what)
+static inline int expect_device(const struct pod_device *wanted, const struct pod_device *found, const char *what)
 {
     for (size_t i = 0; i < FIELD_COUNT; i++)
         if (field_of(wanted, i) != field_of(found, i))
@@ -415,10 +418,10 @@ static inline struct pod_device meant_by(struct pod_device device)
 }
 
 /* Whether two devices mean the same. */
-static inline int same_meaning(const struct pod_device *wanted, const struct pod_device *found, const char *what)
+static inline int expect_meaning(const struct pod_device *wanted, const struct pod_device *found, const char *what)
 {
     const struct pod_device left = meant_by(*wanted), right = meant_by(*found);
-    return same_device(&left, &right, what);
+    return expect_device(&left, &right, what);
 }
 
 /* Devices to start from, one of each kind that a sound device can be, with short times. */

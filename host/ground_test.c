@@ -32,7 +32,7 @@ static void test_power_up(uint32_t straps, struct asked times)
     const struct pod_powered powered = pod_power_up(straps, times.program, times.slice, times.pause);
     expect(number, powered.number, "straps %u, times %u %u %u", straps, times.program, times.slice,
            times.pause);
-    same_meaning(&wanted, &powered.device, "the device powered up");
+    expect_meaning(&wanted, &powered.device, "the device powered up");
     expect(1, is_sound(&powered.device), "the device powered up is sound");
 }
 
@@ -68,7 +68,7 @@ static void test_set_times(struct pod_device device, struct asked times)
         wanted.times = kept(times);
     const struct pod_powered set = pod_set_times(device, times.program, times.slice, times.pause);
     expect(number, set.number, "times %u %u %u", times.program, times.slice, times.pause);
-    same_device(&wanted, &set.device, "the device with its times set");
+    expect_device(&wanted, &set.device, "the device with its times set");
 }
 
 static void test_setting_times(void)
@@ -111,7 +111,7 @@ static void test_soundness(const struct pod_device *device)
     if (sound)
         wanted.times = kept((struct asked){ 200, 39062, 30 });
     expect(sound ? 0 : 1, set.number, "set times");
-    same_device(&wanted, &set.device, "the device with its times set");
+    expect_device(&wanted, &set.device, "the device with its times set");
     expect(sound ? status_of(device) : 0, pod_status(*device), "status");
     expect(sound ? device->controller.marks : 0, pod_marks(*device), "marks");
 }

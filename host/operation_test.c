@@ -14,7 +14,7 @@ static void test_setup(struct pod_device device, uint32_t pins, uint32_t address
     set_device(device);
     play(samples, 1, WRITE_CLOCKS, FRAME_WRITE, 0);
     const struct pod_device wanted = counted(set_up(device, pins, address, data), WRITE_CLOCKS - WRITE_ACTS);
-    same_meaning(&wanted, &now, "the device after the write that ends a setup");
+    expect_meaning(&wanted, &now, "the device after the write that ends a setup");
     expect(1, is_sound(&now), "whether the device is sound after a setup");
 }
 
@@ -185,7 +185,7 @@ static void test_erases(void)
         images_stand();
         outer->slices = slices - 1;
         outer->left = CLOCKS * MOST_SLICE;
-        same_meaning(&device, &now, "the device after a slice");
+        expect_meaning(&device, &now, "the device after a slice");
     }
 }
 
@@ -250,7 +250,7 @@ static void test_resume(const struct pod_device *device)
 {
     const struct pod_operation *outer = &device->controller.outer;
     idle(70);
-    same_meaning(device, &now, "the suspended device, later");
+    expect_meaning(device, &now, "the suspended device, later");
     write_and_act(ARRAY, 0xD0);
     drop_frame();
     if (outer->left > 1) {
@@ -297,13 +297,13 @@ static void test_suspend(uint32_t left, uint32_t pause, uint32_t slices)
         idle(asked);
         device = device_in(READY);
         device.controller.mode = MODE_STATUS;
-        same_meaning(&device, &now, "the device whose operation ended before its pause did");
+        expect_meaning(&device, &now, "the device whose operation ended before its pause did");
         return;
     }
     outer->state = SUSPENDED;
     outer->left = left > asked ? left - asked : WHOLE - (asked - left);
     outer->slices -= left > asked ? 0 : 1;
-    same_meaning(&device, &now, "the suspended device");
+    expect_meaning(&device, &now, "the suspended device");
     test_resume(&device);
 }
 
@@ -423,7 +423,7 @@ static void test_commands_at_ends(void)
             wanted.controller.mode = MODE_STATUS;
             if (condition == READY)
                 wanted = acted(wanted, action_of(READY, commands[i]));
-            same_meaning(&wanted, &now, "the device after a command and the end of a program");
+            expect_meaning(&wanted, &now, "the device after a command and the end of a program");
             image_will_change(0);
             images_stand();
         }
@@ -439,7 +439,7 @@ static void test_commands_at_ends(void)
             device.controller.mode = resumed ? MODE_STATUS : MODE_ARRAY;
             device.controller.outer.state = resumed ? RUNNING : SUSPENDED;
             device.controller.outer.left -= resumed ? ends + WRITE_CLOCKS - WRITE_ACTS : ends;
-            same_meaning(&device, &now, "the device after D0h");
+            expect_meaning(&device, &now, "the device after D0h");
         }
     images_stand();
 }
@@ -457,12 +457,12 @@ enum { RESET_COUNT = sizeof RESETS / sizeof RESETS[0] };
 static void test_reset(const struct pod_device *wanted, uint32_t sample)
 {
     clock_dark(sample, 1);
-    same_meaning(wanted, &now, "the device after a reset");
+    expect_meaning(wanted, &now, "the device after a reset");
     expect(0x80, pod_status(now), "status after a reset");
     expect(wanted->controller.marks, pod_marks(now), "marks after a reset");
     clock_dark(sample, 1);
     idle(3);
-    same_meaning(wanted, &now, "the device after a reset, later");
+    expect_meaning(wanted, &now, "the device after a reset, later");
 }
 
 static void test_reset_of(struct pod_device device, uint32_t sample)

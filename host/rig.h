@@ -109,7 +109,7 @@ static inline uint32_t clock_once(uint32_t sample)
     expect(0, stepped.number, "number of the step by value");
     expect(stepped.number, clocked.number, "number of the step in place beside that by value");
     expect(stepped.answer, clocked.answer, "answer of the step in place beside that by value");
-    same_device(&stepped.device, twin(), "the step in place beside that by value");
+    expect_device(&stepped.device, twin(), "the step in place beside that by value");
     now = stepped.device;
     return stepped.answer;
 }

@@ -88,7 +88,7 @@ static void test_break(struct pod_device wanted, uint32_t nibble)
     wanted.frame = (struct pod_frame){
         .kind = nibble == START_READ ? FRAME_READ : nibble == START_WRITE ? FRAME_WRITE : FRAME_NONE, .clock = 1
     };
-    same_meaning(&wanted, &now, "the device after the break");
+    expect_meaning(&wanted, &now, "the device after the break");
     if (nibble == START_READ) {
         lay_read(samples, PINS, now.straps, DEVICE);
         play(samples, 2, READ_CLOCKS, FRAME_READ, 0x2D);
@@ -169,12 +169,12 @@ static void test_register(uint32_t address)
     device.controller.mode = MODE_SIGNATURE;
     set_device(device);
     expect(register_value(&device, address, 0x15), read_on(pins, address), "register %X read", address);
-    same_meaning(&device, &now, "the device after a register read");
+    expect_meaning(&device, &now, "the device after a register read");
     for (size_t i = 0; i < sizeof values; i++) {
         write_on(pins, address, values[i]);
         if (lock >= 0 && (device.locks[lock] & LOCKED_DOWN) == 0)
             device.locks[lock] = values[i] & 7;
-        same_meaning(&device, &now, "the device after a register write");
+        expect_meaning(&device, &now, "the device after a register write");
         expect(register_value(&device, address, 0x15), read_on(pins, address), "register %X read again", address);
     }
 }
@@ -226,11 +226,11 @@ static void test_register_values(void)
             set_device(wanted);
             write_at(lock_register(block), value);
             wanted.locks[block] = value & 7;
-            same_meaning(&wanted, &now, "the device with a lock written");
+            expect_meaning(&wanted, &now, "the device with a lock written");
             write_at(lock_register(block), ~value & 0xFF);
             if ((value & LOCKED_DOWN) == 0)
                 wanted.locks[block] = ~value & 7;
-            same_meaning(&wanted, &now, "the device with a lock written twice");
+            expect_meaning(&wanted, &now, "the device with a lock written twice");
             expect(wanted.locks[block], read_at(lock_register(block)), "lock %u read back", block);
         }
 
@@ -243,7 +243,7 @@ static void test_register_values(void)
             write_at(lock_register(block), 0x04);
             wanted = counted(wanted, READ_CLOCKS + WRITE_CLOCKS);
             wanted.locks[block] = 0x04;
-            same_meaning(&wanted, &now, "the device with a lock written");
+            expect_meaning(&wanted, &now, "the device with a lock written");
         }
     images_stand();
 }
@@ -278,7 +278,7 @@ static void test_modes(void)
                     expect(array_value(&device, places[i]), read_at(above[(i + lock) % 5] + places[i]),
                            "mode %u, lock %u, read of %X", mode, lock, places[i]);
                     const struct pod_device after = counted(device, READ_CLOCKS);
-                    same_meaning(&after, &now, "the device after an array read");
+                    expect_meaning(&after, &now, "the device after an array read");
                 }
         images_stand();
         check_close();
@@ -314,7 +314,7 @@ static void test_commands(void)
                     write_at(ARRAY + 0x34567 * (command % 2), command);
                     device = acted(counted(device, WRITE_ACTS), action_of(condition, command));
                     device = counted(device, WRITE_CLOCKS - WRITE_ACTS);
-                    same_meaning(&device, &now, "the device after a command");
+                    expect_meaning(&device, &now, "the device after a command");
                     expect(status_of(&device), pod_status(now), "status after command %Xh", command);
                 }
         images_stand();
@@ -330,12 +330,12 @@ static void test_refusal(struct pod_device device, size_t length, uint32_t sampl
     const struct pod_stepped stepped = pod_step(device, image.bytes, length, (uint16_t)sample);
     expect(number, stepped.number, "number of the step by value, image of %zu, sample %X", length, sample);
     expect(0, stepped.answer, "answer of a step by value refused");
-    same_device(&device, &stepped.device, "the device of a step by value refused");
+    expect_device(&device, &stepped.device, "the device of a step by value refused");
     *twin() = device;
     const struct pod_clocked clocked = pod_clock(twin(), twin_image.bytes, length, (uint16_t)sample);
     expect(number, clocked.number, "number of the step in place, image of %zu, sample %X", length, sample);
     expect(0, clocked.answer, "answer of a step in place refused");
-    same_device(&device, twin(), "the device of a step in place refused");
+    expect_device(&device, twin(), "the device of a step in place refused");
 }
 
 /* A device whose operation ends on the next clock, so that a step that is not refused shows in the image. */

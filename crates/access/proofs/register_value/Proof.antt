@@ -1,0 +1,26 @@
+use borrow.Author.Needs.{needs}
+use Rattle.access.specs.Read.{registerValue}
+use mathlib.Core.Path.{_∙_, sym}
+use Rattle.part.proofs.Rule.{lock-below}
+use Rattle.access.proofs.register_value.Statement.{statement}
+use Rattle.access.proofs.register_value.Tie as tie
+
+pub register-value-spec : {M : Type 1} → statement M
+unfolding registerValue
+register-value-spec =
+    tie.close
+    (tie.spec
+    (λ c κs. search needs)
+    (λ c. search needs)
+    (λ c. search needs)
+    (λ c. lock-below (c .before .before .before .before .args .address) (c .before .b .given .0 .0) (sym (c .before .before .before .look-up .ensures) ∙ c .before .b .given .1))
+    (λ c. search needs)
+    (λ c. search needs)
+    (λ c. search needs)
+    (λ c. search needs)
+    (λ c. search needs)
+    (λ c. rw (← c .before .before .before .look-up .ensures, c .before .b .given .1))
+    (λ c. rw (← c .before .before .look-up .ensures, c .enum-told .given .1))
+    (λ c. rw (← c .before .before .look-up .ensures, c .enum-told2 .given .1))
+    (λ c. rw (← c .before .before .look-up .ensures, c .enum-told3 .given .1))
+    (λ c. rw (← c .before .before .look-up .ensures, c .enum-told4 .given .1)))

@@ -1,0 +1,13 @@
+use Rattle.laws.proofs.Rules.{cases}
+use Rattle.access.specs.Read.{signatureOf}
+use Rattle.access.proofs.signature.Statement.{statement}
+use Rattle.access.proofs.signature.Tie as tie
+
+pub signature-spec : {M : Type 1} → statement M
+unfolding signatureOf
+signature-spec =
+    tie.close
+    (tie.spec
+    (λ c. search cases)
+    (λ c. search cases)
+    (λ c. search cases))
