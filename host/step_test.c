@@ -205,6 +205,11 @@ static void test_register_addresses(void)
     };
     for (size_t i = 0; i < sizeof nothing / sizeof nothing[0]; i++)
         test_register(nothing[i] & ~(1u << 22));
+    check_group("registers: a block above the last lock is array, and takes commands");
+    power_up(10, 3906, 30);
+    expect(image.wanted[2], read_at(lock_register(15) + 0x10000), "byte 2");
+    write_at(lock_register(15) + 0x10000, 0x70);
+    expect(0x80, read_at(lock_register(15) + 0x10000), "status");
     images_stand();
 }
 

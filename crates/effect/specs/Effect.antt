@@ -1,5 +1,5 @@
 -- What an effect does to the array. Assumes nothing.
-use Prim.Native.Nat.{ℕ, _+_, _≤_, _<_}
+use Prim.Native.Nat.{ℕ, _+_, _*_, _≤_, _<_}
 use mathlib.Core.List.{List, _++_}
 use lib.Bits.{bitAnd}
 use lib.ListN.{getD, set, take, drop, replicate}
@@ -15,6 +15,12 @@ abbrev pub within : Effect → ℕ → Type 0
 within Nothing n = Unit
 within (Program address byte) n = address < n
 within (Fill start count value) n = start + count ≤ n
+
+-- an effect lies inside a block
+abbrev pub inBlock : ℕ → Effect → Type 0
+inBlock block Nothing = Unit
+inBlock block (Program address byte) = (block * 65536 ≤ address) × (address < block * 65536 + 65536)
+inBlock block (Fill start count value) = (block * 65536 ≤ start) × (start + count ≤ block * 65536 + 65536)
 
 -- a program stores old AND data
 abbrev pub applied : Effect → List ℕ → List ℕ

@@ -9,6 +9,13 @@ esac
 PATH=$PATH:/usr/sbin:/sbin
 LC_ALL=C
 export BAY_BUILD PATH LC_ALL
+for program in bay lay poke; do
+    if [ ! -x "$BAY_BUILD/$program" ]; then
+        echo "${0##*/}: expected $BAY_BUILD/$program, which make host builds, and found none"
+        echo "0 passed, 1 failed"
+        exit 1
+    fi
+done
 
 work=$(mktemp -d) || exit 1
 trap 'cd /; rm -rf "$work"' EXIT
