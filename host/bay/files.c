@@ -100,23 +100,6 @@ static void on_signal(int number)
     (void)raise(number); /* its own disposition is back in place, so this ends the program as the sender meant */
 }
 
-static const int ending[] = { SIGINT, SIGTERM, SIGHUP, SIGPIPE };
-enum { ENDINGS = sizeof ending / sizeof ending[0] };
-
-static void guard(void)
-{
-    for (size_t i = 0; i < ENDINGS; i++) {
-        (void)signal_take(ending[i], on_signal, (int)(SA_RESETHAND | SA_NODEFER));
-    }
-}
-
-static void unguard(void)
-{
-    for (size_t i = 0; i < ENDINGS; i++) {
-        signal_give_back(ending[i], on_signal);
-    }
-}
-
 static int write_all(int file, const uint8_t *at, size_t length)
 {
     while (length > 0) {
@@ -273,7 +256,8 @@ static int write_standard(int file, const struct output *output)
 
 int deliver(const struct output *outputs, size_t count)
 {
-    guard();
+    struct signals signals;
+    signals_take(&signals, on_signal, (int)(SA_RESETHAND | SA_NODEFER));
     int status = 0;
     bool taken = false;
     for (size_t i = 0; i < count && i < DRAFTS && status == 0; i++) {
@@ -294,6 +278,6 @@ int deliver(const struct output *outputs, size_t count)
         status = keep_drafts();
     }
     drop_drafts();
-    unguard();
+    signals_give_back(&signals);
     return status;
 }

@@ -49,6 +49,7 @@ struct bay {
 
 /* The signal that is to end the rack, 0 while there is none. */
 static volatile sig_atomic_t ended_by;
+static struct signals signals;
 
 static void on_signal(int number)
 {
@@ -110,9 +111,7 @@ static _Noreturn void bay_process(const struct rack *rack, struct bay *bay)
     int length = snprintf(speaker, sizeof speaker, "bay rack: bay %u", bay->number);
     trouble_speaker(length > 0 ? speaker : "bay rack");
     trouble_into(outcome->words, sizeof outcome->words);
-    signal_give_back(SIGINT, on_signal);
-    signal_give_back(SIGTERM, on_signal);
-    signal_give_back(SIGHUP, on_signal);
+    signals_give_back(&signals);
     (void)alarm(rack->seconds);
     run_bay(rack, bay->number, outcome);
     _exit(write(bay->pipe, outcome, sizeof *outcome) == (ssize_t)sizeof *outcome ? 0 : 1);
@@ -193,8 +192,8 @@ static void wait_for_bays(struct bay *bays)
         for (unsigned i = 0; i < BAYS; i++) {
             ready[i] = (struct pollfd){ .fd = bays[i].done ? -1 : bays[i].pipe, .events = POLLIN };
         }
-        if (poll(ready, BAYS, -1) < 0) {
-            continue; /* a signal, which ended_by tells */
+        if (poll(ready, BAYS, 200) <= 0) {
+            continue; /* a signal, which ended_by tells, or nothing yet */
         }
         for (unsigned i = 0; i < BAYS; i++) {
             if (!bays[i].done && ready[i].revents != 0) {
@@ -277,9 +276,7 @@ static int run_rack(const struct rack *rack)
 {
     static struct bay bays[BAYS];
     int status = 0;
-    (void)signal_take(SIGINT, on_signal, 0);
-    (void)signal_take(SIGTERM, on_signal, 0);
-    (void)signal_take(SIGHUP, on_signal, 0);
+    signals_take(&signals, on_signal, 0);
     for (unsigned i = 0; i < BAYS && status == 0; i++) {
         bays[i].number = i + 1;
         bays[i].pipe = -1;
@@ -289,8 +286,8 @@ static int run_rack(const struct rack *rack)
         wait_for_bays(bays);
     }
     end_bays(bays);
+    signals_give_back(&signals);
     if (ended_by != 0) {
-        (void)signal(ended_by, SIG_DFL);
         (void)raise(ended_by);
     }
     if (status != 0) {

@@ -80,9 +80,8 @@ static int catch_signals(void)
     if (pipe(stop_pipe) != 0 || fcntl(stop_pipe[1], F_SETFL, O_NONBLOCK) != 0 || signal(SIGPIPE, SIG_IGN) == SIG_ERR) {
         return no_server("listen for signals", errno);
     }
-    (void)signal_take(SIGINT, on_signal, 0);
-    (void)signal_take(SIGTERM, on_signal, 0);
-    (void)signal_take(SIGHUP, on_signal, 0);
+    struct signals signals;
+    signals_take(&signals, on_signal, 0);
     return 0;
 }
 

@@ -2,25 +2,30 @@
 #include "signals.h"
 
 #include <signal.h>
+#include <stddef.h>
 #include <string.h>
 
-bool signal_take(int number, void (*handler)(int), int flags)
+static const int numbers[SIGNALS] = { SIGINT, SIGTERM, SIGHUP, SIGPIPE };
+
+void signals_take(struct signals *signals, signal_handler *handler, int flags)
 {
-    struct sigaction act;
-    if (sigaction(number, NULL, &act) != 0 || act.sa_handler != SIG_DFL) {
-        return false;
+    struct sigaction ours;
+    memset(&ours, 0, sizeof ours);
+    ours.sa_handler = handler;
+    ours.sa_flags = flags;
+    (void)sigemptyset(&ours.sa_mask);
+    for (size_t i = 0; i < SIGNALS; i++) {
+        struct sigaction now;
+        bool free = sigaction(numbers[i], NULL, &now) == 0 && now.sa_handler == SIG_DFL;
+        signals->taken[i] = free && sigaction(numbers[i], &ours, NULL) == 0;
     }
-    memset(&act, 0, sizeof act);
-    act.sa_handler = handler;
-    act.sa_flags = flags;
-    (void)sigemptyset(&act.sa_mask);
-    return sigaction(number, &act, NULL) == 0;
 }
 
-void signal_give_back(int number, void (*handler)(int))
+void signals_give_back(const struct signals *signals)
 {
-    struct sigaction act;
-    if (sigaction(number, NULL, &act) == 0 && act.sa_handler == handler) {
-        (void)signal(number, SIG_DFL);
+    for (size_t i = 0; i < SIGNALS; i++) {
+        if (signals->taken[i]) {
+            (void)signal(numbers[i], SIG_DFL);
+        }
     }
 }

@@ -1,13 +1,23 @@
-/* Signals that would end the program, taken over for a while. */
+/* The signals by which someone ends a program, taken over for a while. */
 #ifndef BAY_SIGNALS_H
 #define BAY_SIGNALS_H
 
 #include <stdbool.h>
 
-/* Takes a signal over, unless it is ignored or has been taken: who started bay with a signal ignored meant that. */
-bool signal_take(int number, void (*handler)(int), int flags);
+enum { SIGNALS = 4 };
 
-/* Gives a signal back, if it is still this handler's. */
-void signal_give_back(int number, void (*handler)(int));
+/* Which of them were taken. */
+struct signals {
+    bool taken[SIGNALS];
+};
+
+typedef void signal_handler(int number);
+
+/* Takes SIGINT, SIGTERM, SIGHUP and SIGPIPE over, but for those that are ignored, since whoever started bay so meant it,
+ * and those that have been taken before. */
+void signals_take(struct signals *signals, signal_handler *handler, int flags);
+
+/* Gives back what was taken. */
+void signals_give_back(const struct signals *signals);
 
 #endif

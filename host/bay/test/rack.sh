@@ -172,6 +172,7 @@ says err "bay rack: bay 2 ended before it was done"
 
 case_ "interrupted: it ends by the signal, and no bay goes on"
 mkdir cut
+: >err
 "$BAY_BUILD/bay" rack stuck --save cut --seconds 60 >out 2>err &
 running=$!
 tries=0

@@ -106,12 +106,15 @@ same board.img kept.img
 
 case_ "a client that asks and does not listen is ended too"
 start board.img --idle 1
-poke "$port" "s:$(yes 0A0000F3000001 | head -n 300 | tr -d '\n')" w:2500
+"$BAY_BUILD/poke" "$port" "s:$(yes 0A0000F3000001 | head -n 300 | tr -d '\n')" w:120000 &
+other=$!
 tries=0
-until grep -q '^client 1 ends' log || [ $tries -ge 200 ]; do
-    sleep 0.05
+until grep -q '^client 1 ends' log || [ $tries -ge 600 ]; do
+    sleep 0.1
     tries=$((tries + 1))
 done
+kill $other
+ended $other
 says log "the client was silent too long"
 answers 065A s:090000F3 r:2
 stop 0
