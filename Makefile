@@ -24,7 +24,7 @@ CC := tools/cross-cc
 NM := x86_64-linux-gnu-nm
 endif
 
-.PHONY: test quick lib setup host programs tests needs demo tidy clean
+.PHONY: test quick lib setup host programs tests needs demo run-demo tidy clean
 .DELETE_ON_ERROR:
 
 test:
@@ -115,8 +115,12 @@ needs:
 
 # ---- Jobs.
 
-demo: host
-	@if [ -x $(BUILD)/bay ]; then $(BUILD)/bay demo; else $(BUILD)/ground_test; fi
+demo: $(POD_LIB) | setup
+	@$(MAKE) --no-print-directory run-demo
+
+# The bay program's demonstration; till the library has all that it calls, the tests of what there is.
+run-demo: $(BUILD)/$(if $(LACKS),ground_test,bay)
+	@$< $(if $(LACKS),,demo)
 
 C_FILES    = $(sort $(wildcard host/*.c host/bay/*.c host/bay/test/*.c))
 TIDY_FLAGS := -D_XOPEN_SOURCE=700 -Ihost -Ihost/bay

@@ -1,3 +1,4 @@
 pub mod Facts
 pub mod Bits
 pub mod Within
+pub mod Kept
