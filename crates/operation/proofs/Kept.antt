@@ -41,7 +41,7 @@ count-most : (c : Clocks) (m : Micros) → counts c m ≡ true → c .0 ≤ m .0
 unfolding counts inClocks
 count-most c m e = leb-true _ _ (holds _ 1 e)
 
-count-full : (m : Micros) → 1 ≤ m .0 → counts (inClocks m) m ≡ true
+pub count-full : (m : Micros) → 1 ≤ m .0 → counts (inClocks m) m ≡ true
 unfolding inClocks
 count-full m l = count-made (m .0 * 33) m (omega arith) (omega arith)
 
@@ -50,7 +50,7 @@ relleft : (o : Operation) (s : ℕ) (l : Clocks) → operationFits o ≡ true �
 unfolding operationFits stateFits
 relleft o s l e f = also _ (holds _ 0 e) (also _ (holds _ 1 e) (also _ f (also _ (holds _ 3 e) none)))
 
-restate : (o : Operation) (s : ℕ) (p : Clocks) → operationFits o ≡ true → stateFits (withPause o s p) ≡ true → operationFits (withPause o s p) ≡ true
+pub restate : (o : Operation) (s : ℕ) (p : Clocks) → operationFits o ≡ true → stateFits (withPause o s p) ≡ true → operationFits (withPause o s p) ≡ true
 unfolding operationFits leftFits
 restate o s p e f = also _ (holds _ 0 e) (also _ (holds _ 1 e) (also _ (holds _ 2 e) (also _ f none)))
 
@@ -186,7 +186,7 @@ any-setup s ProgramSuspended e = e
 any-setup s EraseSuspended e = let h = ltb-true s 1 e in lt-ltb s 2 (omega arith)
 any-setup s ProgramInside e = e
 
-suspended-else : (o : Operation) → operationFits o ≡ true → isRunning o ≡ false → isPausing o ≡ false → isSuspended o ≡ true
+pub suspended-else : (o : Operation) → operationFits o ≡ true → isRunning o ≡ false → isPausing o ≡ false → isSuspended o ≡ true
 unfolding stateFits
 suspended-else o e r p = rw (r, p) at (fits o e .state)
 
@@ -236,7 +236,7 @@ inner-after o i n e a (goes f k d r) = pick (ask (isAbsent n))
         (also _ (holds _ 3 h)
         (also _ (ap (λ (t : ℕ). not (eqb (blockOf (o .address)) (blockOf t))) d ∙ holds _ 4 h) (also _ f none))))))
 
-none-inside : (o i : Operation) → isAbsent i ≡ true → innerFits o i ≡ true
+pub none-inside : (o i : Operation) → isAbsent i ≡ true → innerFits o i ≡ true
 unfolding innerFits
 none-inside o i e = rw e
 
