@@ -52,7 +52,7 @@ on f c b a e i l m h = pick (ask (isRead f))
     pick (yes r) = on-read f c b a i r l (omega arith) h
     pick (no r) = on-write f c b a i r (write-kind f e i r) l m h
 
-rests : frameFits idle ≡ true
+pub rests : frameFits idle ≡ true
 unfolding frameFits
 rests = refl
 

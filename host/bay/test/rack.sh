@@ -180,9 +180,11 @@ while [ "$(grep -c 'is home' err)" -lt 11 ] && [ $tries -lt 200 ]; do
     sleep 0.05
     tries=$((tries + 1))
 done
+began=$(date +%s)
 kill -TERM $running
 ended $running
 [ $got -eq 143 ] || wrong "status $got: it did not end by the signal"
+[ $(($(date +%s) - began)) -lt 20 ] || wrong "it waited for the bay that waits for ever"
 absent cut/bay02.img
 same cut/bay04.img after/bay04.img
 tidy
