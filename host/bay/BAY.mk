@@ -6,7 +6,8 @@ BAY_CC = $(CC) $(CFLAGS) -D_XOPEN_SOURCE=700 -Ihost
 
 # lay makes streams from scripts, poke is a client for the tests of the server
 BAY_PROGRAMS := $(BUILD)/bay $(BUILD)/lay $(BUILD)/poke
-BAY_TESTS := $(foreach test,run trace demo sheet rack serve docs lint flashrom,'BAY_BUILD=$(BUILD) host/bay/test/$(test).sh')
+BAY_TESTS := $(foreach test,run trace demo sheet rack serve docs lint flashrom, \
+               'BAY_BUILD=$(BUILD) host/bay/test/$(test).sh')
 
 $(BUILD)/bay: $(BAY_SOURCES) $(BAY_HEADERS) $(POD_LIB)
 	@mkdir -p $(BUILD)

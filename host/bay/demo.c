@@ -138,9 +138,8 @@ static void tell_story(struct text *text)
                    "twelve. Bay %d is paused at that moment and goes on afterwards; bay %d begins\n"
                    "too late.\n\n",
              (unsigned)bay_settings.slice, counted(PULL).text, PAUSED_BAY, BAYS);
-    text_add(text, "%3s  %5s  %7s  %9s  %10s  %-27s  %-5s  %s\n", "", "", "erase", "blank", "erase", "", "block", "old");
-    text_add(text, "%3s  %5s  %7s  %9s  %10s  %-27s  %-5s  %s\n", "bay", "block", "begun", "at pull", "over", "status", "now",
-             "model");
+    text_add(text, "              erase      blank       erase  %-27s  block  old\n", "");
+    text_add(text, "bay  block    begun    at pull        over  %-27s  now    model\n", "status");
 }
 
 static void tell_row(struct text *text, const struct night *night)
@@ -189,7 +188,7 @@ static int show(struct text *text, const struct stock *stock, uint8_t *image)
         bench_power_up(&bench, &bay_settings);
         live(&bench, stock, &nights[i]);
         if (bench.refusal != 0) {
-            return refused(bench.refusal, &(struct facts){ .image = "the demo", .stream = "the demo", .settings = bay_settings });
+            return refused(bench.refusal, &(struct facts){ .image = "demo", .stream = "demo", .settings = bay_settings });
         }
         tell_row(text, &nights[i]);
     }

@@ -30,7 +30,7 @@ struct outcome {
     uint32_t changed;
     char words[1024];
 };
-_Static_assert(sizeof(struct outcome) <= _POSIX_PIPE_BUF * 4, "an outcome must fit a pipe");
+_Static_assert(sizeof(struct outcome) <= PIPE_BUF, "an outcome arrives in one piece");
 
 struct rack {
     const char *folder;

@@ -74,13 +74,17 @@ static int no_server(const char *what, int error)
                    what, strerror(error));
 }
 
-/* SIGINT, SIGTERM and SIGHUP end the server after it has saved; a client that is gone is no signal. */
+/* SIGINT, SIGTERM and SIGHUP end the server after it has saved. A reader of its words that is gone does not. */
 static int catch_signals(void)
 {
-    if (pipe(stop_pipe) != 0 || fcntl(stop_pipe[1], F_SETFL, O_NONBLOCK) != 0 || signal(SIGPIPE, SIG_IGN) == SIG_ERR) {
-        return no_server("listen for signals", errno);
-    }
     struct signals signals;
+    if (pipe(stop_pipe) != 0 || fcntl(stop_pipe[1], F_SETFL, O_NONBLOCK) != 0 || signal(SIGPIPE, SIG_IGN) == SIG_ERR) {
+        return trouble(TROUBLE_SYSTEM, "the server cannot be ended by a signal\n"
+                                       "  expected  room for a pipe\n"
+                                       "  found     %s\n"
+                                       "  do        end other programs and try again",
+                       strerror(errno));
+    }
     signals_take(&signals, on_signal, 0);
     return 0;
 }

@@ -69,7 +69,8 @@ int settings_from_sheet(const char *path, struct settings *out)
     }
     struct pod_sheet read = pod_sheet_read(sheet.at, sheet.length);
     if (read.number != 0) {
-        status = refused(read.number, &(struct facts){ .sheet = path, .sheet_length = sheet.length });
+        status = refused(read.number,
+                         &(struct facts){ .sheet = path, .sheet_bytes = sheet.at, .sheet_length = sheet.length });
     }
     *out = (struct settings){ read.straps, read.program, read.slice, read.pause };
     bytes_free(&sheet);

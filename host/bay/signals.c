@@ -5,7 +5,7 @@
 #include <stddef.h>
 #include <string.h>
 
-static const int numbers[SIGNALS] = { SIGINT, SIGTERM, SIGHUP, SIGPIPE };
+static const int numbers[SIGNALS] = { SIGINT, SIGTERM, SIGHUP, SIGPIPE, SIGALRM };
 
 void signals_take(struct signals *signals, signal_handler *handler, int flags)
 {

@@ -1,4 +1,4 @@
-/* Writing the waveform. Every wire is one bit wide, since sigrok passes over wider ones. */
+/* Writing the waveform. Every wire is one bit wide, since sigrok cannot read wider ones. */
 #include "vcd.h"
 
 #include "words.h"
@@ -42,7 +42,7 @@ static unsigned long long start_of(uint64_t clock)
 void vcd_begin(struct vcd *vcd)
 {
     *vcd = (struct vcd){ .clock = 0 };
-    text_add(&vcd->text, "$comment 33 clocks are a microsecond; clk rises in the middle of a clock; status is as after it $end\n"
+    text_add(&vcd->text, "$comment 33 clocks are a microsecond; clk rises in mid-clock; status as after the clock $end\n"
                          "$timescale 1 ns $end\n"
                          "$scope module bay $end\n");
     for (unsigned wire = 0; wire < VCD_WIRES; wire++) {

@@ -175,6 +175,20 @@ static struct brief length_found(size_t length, bool more)
     return out;
 }
 
+/* A sheet's bytes as they were found, as far as a sheet goes. */
+static struct brief sheet_found(const struct facts *facts)
+{
+    struct brief out = { "" };
+    brief_add(&out, "%s bytes", counted(facts->sheet_length).text);
+    for (size_t i = 0; i < facts->sheet_length && i < POD_SHEET_BYTES; i++) {
+        brief_add(&out, "%s%02X", i == 0 ? ": " : " ", facts->sheet_bytes[i]);
+    }
+    if (facts->sheet_length > POD_SHEET_BYTES) {
+        brief_add(&out, " ..");
+    }
+    return out;
+}
+
 static struct brief first_class_3(const struct facts *facts)
 {
     struct brief out = { "" };
@@ -204,9 +218,9 @@ int refused(uint32_t number, const struct facts *facts)
         if (facts->sheet != NULL) {
             return trouble(status, "refusal 3: %s has straps that the part has not\n"
                                    "  expected  straps 0 to 15\n"
-                                   "  found     more in the sheet\n"
+                                   "  found     %s\n"
                                    "  do        write the sheet anew with bay sheet write",
-                           facts->sheet);
+                           facts->sheet, sheet_found(facts).text);
         }
         return trouble(status, "refusal 3: there are no such straps\n"
                                "  expected  straps 0 to 15\n"
@@ -217,9 +231,9 @@ int refused(uint32_t number, const struct facts *facts)
         if (facts->sheet != NULL) {
             return trouble(status, "refusal 4: %s has a time that is out of range\n"
                                    "  expected  program 1 to 200, slice 1 to 39,062, pause 1 to 30 microseconds\n"
-                                   "  found     another in the sheet\n"
+                                   "  found     %s\n"
                                    "  do        write the sheet anew with bay sheet write",
-                           facts->sheet);
+                           facts->sheet, sheet_found(facts).text);
         }
         return trouble(status, "refusal 4: a time is out of range\n"
                                "  expected  program 1 to 200, slice 1 to 39,062, pause 1 to 30 microseconds\n"
@@ -242,9 +256,9 @@ int refused(uint32_t number, const struct facts *facts)
     case 8:
         return trouble(status, "refusal 8: %s is not a bay sheet\n"
                                "  expected  %d bytes: straps, then program, slice and pause, each behind its tag\n"
-                               "  found     %s bytes that are laid out otherwise\n"
+                               "  found     %s\n"
                                "  do        write the sheet anew with bay sheet write",
-                       facts->sheet, POD_SHEET_BYTES, counted(facts->sheet_length).text);
+                       facts->sheet, POD_SHEET_BYTES, sheet_found(facts).text);
     default:
         return trouble(status, "refusal %d, which this command should never meet\n"
                                "  expected  an answer of 0\n"

@@ -46,6 +46,7 @@ struct facts {
     size_t stream_length;
     bool stream_more;
     const char *sheet;
+    const uint8_t *sheet_bytes;
     size_t sheet_length;
     struct settings settings;
 };

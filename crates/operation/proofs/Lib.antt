@@ -2,3 +2,4 @@ pub mod Facts
 pub mod Bits
 pub mod Within
 pub mod Kept
+pub mod Rest

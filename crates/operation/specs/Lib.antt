@@ -1,3 +1,4 @@
 pub mod Marks
 pub mod Clock
 pub mod Reset
+pub mod Whole

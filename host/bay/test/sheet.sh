@@ -49,6 +49,7 @@ case_ "a sheet with straps or a time out of range is refusal 3 or 4"
 hex 01 01 00 10 02 06 00 00 00 42 0F 1E 00 >straps
 gives 3 bay sheet read straps
 explains
+says err "found     13 bytes: 01 01 00 10 02 06 00 00 00 42 0F 1E 00"
 hex 01 01 00 00 02 06 00 00 00 42 0F 1E 00 >time
 gives 4 bay sheet read time
 explains
