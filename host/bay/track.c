@@ -89,7 +89,7 @@ static int take_line(struct pull *pull, struct words words)
 static int bad_line(const char *path, size_t number, const char *line)
 {
     return trouble(TROUBLE_DATA, "%s, line %zu, is no line of a harness track\n"
-                                 "  expected  at CLOCK, then wp high|low, tbl high|low or voltage 0..3, clocks rising\n"
+                                 "  expected  at CLOCK, then wp high|low, tbl high|low or voltage 0..3; clocks never fall\n"
                                  "  found     %.60s\n"
                                  "  do        mend the line, as in: at 1200 wp low",
                    path, number, line);

@@ -3,3 +3,5 @@ pub mod Bits
 pub mod Within
 pub mod Kept
 pub mod Rest
+pub mod Marked
+pub mod Alone
