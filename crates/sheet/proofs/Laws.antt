@@ -1,15 +1,17 @@
--- Reading what was written gives the values back, and writing what was read gives the bytes back. Assumes nothing.
+-- Which number reading and writing give when; reading what was written gives the values back, and writing what was read
+-- gives the bytes back. Assumes nothing.
 use mathlib.Core.Path.{_≡_, _∙_, refl}
-use mathlib.Core.Bool.{Bool, true, false, cond}
+use mathlib.Core.Bool.{true, false}
 use mathlib.Core.List.{List, [], _∷_, _++_}
 use Prim.Native.Nat.{ℕ, _<_, _≤_}
 use native.Mathlib.Omega.{arith}
-use borrow.Author.Tests.{le-ltb, ltb-false}
+use borrow.Author.Tests.{lt-ltb, le-ltb, ltb-true, ltb-false}
 use lib.Dec.{ltb}
 use lib.ListN.{length, getD, take, drop}
 use lib.Seq.{take-at}
 use Rattle.laws.specs.All.{all}
 use Rattle.laws.proofs.All.{holds}
+use Rattle.laws.proofs.Rules.{ask, yes, no}
 use Rattle.units.specs.declared.Times.{Times}
 use Rattle.units.specs.Units.{times, timesFit}
 use Rattle.sheet.specs.declared.Reading.the-variants.{Holds, BadLayout, BadStraps, BadTimes}
@@ -22,32 +24,65 @@ pub example : laid 0 10 3906 30
 unfolding laid
 example = refl
 
-pub laid-length : (straps program slice pause : ℕ) → length (laid straps program slice pause) ≡ 13
-unfolding laid
-laid-length straps program slice pause = refl
+-- 8 wherever the layout is missed, 3 only where it is not, 4 only where neither is
+module _ (s : List ℕ) where
+  pub read-8 : ofLayout s ≡ false → readOf s ≡ BadLayout
+  unfolding readOf
+  read-8 e = rw e
 
-module _ (straps program slice pause : ℕ) (h : straps ≤ 15) (fits : timesFit (times program slice pause) ≡ true) where
-  pub read-laid : readOf (laid straps program slice pause) ≡ Holds straps (times program slice pause)
-  unfolding laid readOf ofLayout fieldAt all
-  read-laid = rw (halves program, halves slice, halves pause, fits, le-ltb 15 straps h)
+  module _ (e : ofLayout s ≡ true) where
+    pub read-3 : 15 < strapsIn s → readOf s ≡ BadStraps
+    unfolding readOf
+    read-3 h = rw (e, lt-ltb 15 (strapsIn s) h)
 
-  module _ (buffer : List ℕ) (room : 13 ≤ length buffer) where
-    pub write-laid : writeOf buffer straps program slice pause
-        ≡ written 0 (laid straps program slice pause ++ drop 13 buffer)
+    module _ (h : strapsIn s ≤ 15) where
+      pub read-4 : timesFit (timesIn s) ≡ false → readOf s ≡ BadTimes
+      unfolding readOf
+      read-4 f = rw (e, le-ltb 15 (strapsIn s) h, f)
+
+      pub read-0 : timesFit (timesIn s) ≡ true → readOf s ≡ Holds (strapsIn s) (timesIn s)
+      unfolding readOf
+      read-0 f = rw (e, le-ltb 15 (strapsIn s) h, f)
+
+-- 3 before 4 before 6
+module _ (buffer : List ℕ) (straps program slice pause : ℕ) where
+  pub write-3 : 15 < straps → writeOf buffer straps program slice pause ≡ written 3 buffer
+  unfolding writeOf
+  write-3 h = rw (lt-ltb 15 straps h)
+
+  module _ (h : straps ≤ 15) where
+    pub write-4 : timesFit (times program slice pause) ≡ false
+        → writeOf buffer straps program slice pause ≡ written 4 buffer
     unfolding writeOf
-    write-laid = rw (le-ltb 15 straps h, fits, le-ltb (length buffer) 13 room)
+    write-4 f = rw (le-ltb 15 straps h, f)
 
-    -- reading what was written
-    pub read-written : readOf (take 13 (writeOf buffer straps program slice pause .buffer))
-        ≡ Holds straps (times program slice pause)
-    read-written =
-        rw (write-laid, take-at (laid straps program slice pause) (drop 13 buffer) 13 (laid-length straps program slice pause))
-        read-laid
+    module _ (f : timesFit (times program slice pause) ≡ true) where
+      pub write-6 : length buffer < 13 → writeOf buffer straps program slice pause ≡ written 6 buffer
+      unfolding writeOf
+      write-6 l = rw (le-ltb 15 straps h, f, lt-ltb (length buffer) 13 l)
 
--- whatever is laid has the layout, and whatever has the layout is laid of the values in it: 8 is given for all else
-pub laid-layout : (straps program slice pause : ℕ) → ofLayout (laid straps program slice pause) ≡ true
-unfolding laid ofLayout fieldAt all
-laid-layout straps program slice pause = refl
+      pub write-0 : 13 ≤ length buffer
+          → writeOf buffer straps program slice pause ≡ written 0 (laid straps program slice pause ++ drop 13 buffer)
+      unfolding writeOf
+      write-0 l = rw (le-ltb 15 straps h, f, le-ltb (length buffer) 13 l)
+
+-- whatever is laid has the layout, and whatever has the layout is laid of the values in it
+module _ (straps program slice pause : ℕ) where
+  pub laid-length : length (laid straps program slice pause) ≡ 13
+  unfolding laid
+  laid-length = refl
+
+  pub laid-layout : ofLayout (laid straps program slice pause) ≡ true
+  unfolding laid ofLayout fieldAt all
+  laid-layout = refl
+
+  laid-straps : strapsIn (laid straps program slice pause) ≡ straps
+  unfolding laid
+  laid-straps = refl
+
+  laid-times : timesIn (laid straps program slice pause) ≡ times program slice pause
+  unfolding laid
+  laid-times = rw (halves program, halves slice, halves pause)
 
 module _ (s : List ℕ) (bytes : (i : ℕ) → getD s i 0 < 256) (e : ofLayout s ≡ true) where
   first : (getD s 0 0 ≡ 1) × (getD s 1 0 ≡ 1) × (getD s 2 0 ≡ 0)
@@ -69,37 +104,59 @@ module _ (s : List ℕ) (bytes : (i : ℕ) → getD s i 0 < 256) (e : ofLayout s
       spelled s 13 (thirteen s e)
       ∙ rw (f .0, f .1, f .2, g .0, g .1, g .2, p .0, p .1, q .0, q .1, r .0, r .1)
 
+-- reading what was written
+module _ (straps program slice pause : ℕ) (h : straps ≤ 15) (fits : timesFit (times program slice pause) ≡ true) where
+  pub read-laid : readOf (laid straps program slice pause) ≡ Holds straps (times program slice pause)
+  read-laid =
+      let l = laid-layout straps program slice pause in
+      let n = laid-straps straps program slice pause in
+      let t = laid-times straps program slice pause in
+      rw (n, t) at (read-0 (laid straps program slice pause) l (rw n h) (rw t fits))
+
+  pub read-written : (buffer : List ℕ)
+      → 13 ≤ length buffer
+      → readOf (take 13 (writeOf buffer straps program slice pause .buffer)) ≡ Holds straps (times program slice pause)
+  read-written buffer room =
+      let l = laid-length straps program slice pause in
+      rw (write-0 buffer straps program slice pause h fits room, take-at (laid straps program slice pause) (drop 13 buffer) 13 l)
+      read-laid
+
 -- a reading that holds has passed the three tests, and holds what stands in the bytes
+pub record Held (s : List ℕ) (straps : ℕ) (t : Times) : Type 0 where
+  pub layout : ofLayout s ≡ true
+  pub straps-in : strapsIn s ≡ straps
+  pub times-in : timesIn s ≡ t
+  pub most : strapsIn s ≤ 15
+  pub fits : timesFit (timesIn s) ≡ true
+
 never : {A : Type 0} → _≡_ {A = ℕ} 0 1 → A
 never e = absurd (omega arith)
 
-passed : (a b c : Bool) (n straps : ℕ) (m t : Times)
-    → cond a (cond b BadStraps (cond c (Holds n m) BadTimes)) BadLayout ≡ Holds straps t
-    → (a ≡ true) × (b ≡ false) × (c ≡ true) × (n ≡ straps) × (m ≡ t)
-passed false b c n straps m t e = never (cc)
-passed true true c n straps m t e = never (cc)
-passed true false false n straps m t e = never (cc)
-passed true false true n straps m t e = (refl, refl, refl, (cc), (cc))
+pub held : (s : List ℕ) (straps : ℕ) (t : Times) → readOf s ≡ Holds straps t → Held s straps t
+held s straps t e =
+    elim (ask (ofLayout s)) [
+      | no a ↦ never (cc (read-8 s a))
+      | yes a ↦ elim (ask (ltb 15 (strapsIn s))) [
+        | yes b ↦ never (cc (read-3 s a (ltb-true 15 (strapsIn s) b)))
+        | no b ↦ let h : strapsIn s ≤ 15 = ltb-false 15 (strapsIn s) b in
+            elim (ask (timesFit (timesIn s))) [
+              | no f ↦ never (cc (read-4 s a h f))
+              | yes f ↦ let r = read-0 s a h f in
+                  record { layout = a; straps-in = (cc); times-in = (cc); most = h; fits = f }
+            ]
+      ]
+    ]
 
+-- writing what was read
 module _ (s : List ℕ) (bytes : (i : ℕ) → getD s i 0 < 256) (straps : ℕ) (t : Times) (e : readOf s ≡ Holds straps t) where
-  tests : (ofLayout s ≡ true)
-      × (ltb 15 (strapsIn s) ≡ false)
-      × (timesFit (timesIn s) ≡ true)
-      × (strapsIn s ≡ straps)
-      × (timesIn s ≡ t)
-  unfolding readOf
-  tests = passed (ofLayout s) (ltb 15 (strapsIn s)) (timesFit (timesIn s)) (strapsIn s) straps (timesIn s) t e
-
-  -- the bytes that a reading holds are those that its values lay down
   pub laid-read : s ≡ laid straps (t .program .0) (t .slice .0) (t .pause .0)
-  laid-read = layout-laid s bytes (tests .0) ∙ rw (← tests .4, tests .3)
+  laid-read = let g = held s straps t e in layout-laid s bytes (g .layout) ∙ rw (← g .times-in, g .straps-in)
 
-  -- writing what was read
   pub write-read : (buffer : List ℕ)
       → 13 ≤ length buffer
       → writeOf buffer straps (t .program .0) (t .slice .0) (t .pause .0) ≡ written 0 (s ++ drop 13 buffer)
   write-read buffer room =
-      let most : straps ≤ 15 = rw (tests .3) at (ltb-false 15 (strapsIn s) (tests .1)) in
-      let fits : timesFit t ≡ true = rw (tests .4) at (tests .2) in
-      write-laid straps (t .program .0) (t .slice .0) (t .pause .0) most fits buffer room
-      ∙ rw (← laid-read)
+      let g = held s straps t e in
+      let most : straps ≤ 15 = rw (g .straps-in) at (g .most) in
+      let fits : timesFit t ≡ true = rw (g .times-in) at (g .fits) in
+      write-0 buffer straps (t .program .0) (t .slice .0) (t .pause .0) most fits room ∙ rw (← laid-read)

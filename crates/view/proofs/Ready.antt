@@ -1,6 +1,6 @@
 -- What the test of a view's arguments tells. Assumes nothing.
 use mathlib.Core.Path.{_≡_}
-use mathlib.Core.Bool.{true}
+use mathlib.Core.Bool.{Bool, true}
 use mathlib.Core.List.{List}
 use Prim.Native.Nat.{ℕ, _<_}
 use borrow.Author.Tests.{eqb-true, ltb-true}
@@ -27,3 +27,10 @@ ready d image page block e =
       long = eqb-true _ _ (holds _ 0 (holds _ 3 e));
       zeros = holds _ 1 (holds _ 3 e);
     }
+
+-- the same of an answer that is that test's
+pub told : (r : Bool) (d : Device) (image page : List ℕ) (block : ℕ)
+    → r ≡ canShow d image page block
+    → r ≡ true
+    → Ready d image page block
+told r d image page block is e = ready d image page block (rw is at e)

@@ -1,3 +1,4 @@
+-- `sheet::bytes_of` meets its contract: the array is what `laid` computes to. Assumes nothing.
 use borrow.Author.Needs.{needs}
 use Rattle.sheet.specs.Sheet.{laid}
 use Rattle.sheet.proofs.bytes_of.Statement.{statement}

@@ -1,3 +1,4 @@
+-- `sheet::numbers` meets its contract, case by case. Assumes nothing.
 use borrow.Author.Needs.{needs}
 use Rattle.sheet.proofs.numbers.Statement.{statement}
 use Rattle.sheet.proofs.numbers.Tie as tie

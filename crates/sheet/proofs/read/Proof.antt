@@ -1,3 +1,4 @@
+-- `sheet::read` meets its contract: the layout's test tells that there are thirteen bytes, and each way out has its test. Assumes nothing.
 use borrow.Author.Needs.{needs}
 use Rattle.laws.proofs.Rules.{cases}
 use native.Mathlib.Omega.{arith}

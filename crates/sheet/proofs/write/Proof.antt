@@ -1,3 +1,4 @@
+-- `sheet::write` meets its contract: what the tests, the bytes laid and their copy ensure, put together. Assumes nothing.
 use borrow.Author.Needs.{needs}
 use Rattle.laws.proofs.Rules.{cases}
 use Rattle.sheet.specs.Sheet.{writeOf}

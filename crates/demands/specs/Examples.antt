@@ -1,0 +1,134 @@
+-- Document 01, "Proved examples": the ten as one table. The device is fresh, with straps 0 and every time 1; the image is
+-- any image with 5Ah at F0005h, in block 15. Assumes nothing.
+use Prim.Native.Nat.{ℕ, zero, suc, _+_, _-_, _/_, _%_, _<_}
+use mathlib.Core.Path.{_≡_}
+use mathlib.Core.List.{List, [], _∷_, _++_, map}
+use lib.ListN.{length, getD, take, drop, replicate}
+use Rattle.units.specs.Units.{times}
+use Rattle.part.specs.Fresh.{freshOf}
+use Rattle.device.specs.Status.{statusOf}
+use Rattle.clock.specs.Fold.{World, world, through, answersTo}
+
+-- a sample with the frame line low: RP, INIT, TBL and WP high and voltage class 1; with class 0; with TBL low; in reset
+abbrev quiet : ℕ
+quiet = 992
+
+abbrev unpowered : ℕ
+unpowered = 480
+
+abbrev topLow : ℕ
+topLow = 864
+
+abbrev inReset : ℕ
+inReset = 960
+
+-- the host leaves a nibble on the lines, the frame line high
+abbrev leaves : ℕ → ℕ → ℕ
+leaves pins nibble = pins + 16 + nibble
+
+-- nothing on the lines, n times
+abbrev idles : ℕ → ℕ → List ℕ
+idles pins n = replicate n (leaves pins 15)
+
+-- the head of a frame: strap 0, the address with its highest nibble first, size 0
+abbrev head : ℕ → ℕ → List ℕ
+head pins address =
+    leaves pins 0
+    ∷ leaves pins (address / 0x1000000 % 16)
+    ∷ leaves pins (address / 0x100000 % 16)
+    ∷ leaves pins (address / 0x10000 % 16)
+    ∷ leaves pins (address / 0x1000 % 16)
+    ∷ leaves pins (address / 0x100 % 16)
+    ∷ leaves pins (address / 0x10 % 16)
+    ∷ leaves pins (address % 16)
+    ∷ leaves pins 0
+    ∷ []
+
+-- a read of 19 clocks, and a write of 17
+abbrev reads : ℕ → List ℕ
+reads address = (quiet + 13) ∷ (head quiet address ++ idles quiet 9)
+
+abbrev writes : ℕ → ℕ → ℕ → List ℕ
+writes pins address byte =
+    (pins + 14) ∷ (head pins address ++ (leaves pins (byte % 16) ∷ leaves pins (byte / 16) ∷ idles pins 5))
+
+-- a write as far as its clock n
+abbrev writesTo : ℕ → ℕ → ℕ → List ℕ
+writesTo n address byte = take n (writes quiet address byte)
+
+abbrev target : ℕ
+target = 0xFFF0005
+
+abbrev lock15 : ℕ
+lock15 = 0xFBF0002
+
+abbrev lock14 : ℕ
+lock14 = 0xFBE0002
+
+abbrev maker : ℕ
+maker = 0xFBC0000
+
+-- what is asked of a row: the answers to its last samples, the status register, the byte at F0005h, the marks, or the
+-- read mode and the setup
+pub data Question : Type 0 where
+  answers : ℕ → Question
+  status : Question
+  byte : Question
+  marks : Question
+  controls : Question
+
+abbrev pub shows : Question → List ℕ → World → List ℕ
+shows (answers n) ss w = drop (length ss - n) (answersTo ss w)
+shows status ss w = statusOf (through ss w .device .controller) ∷ []
+shows byte ss w = getD (through ss w .image) 0xF0005 0 ∷ []
+shows marks ss w = through ss w .device .controller .marks ∷ []
+shows controls ss w = through ss w .device .controller .mode ∷ through ss w .device .controller .setup ∷ []
+
+-- the samples, what is asked of them, and what is to be seen
+pub record Row : Type 0 where
+  pub samples : List ℕ
+  pub question : Question
+  pub seen : List ℕ
+
+abbrev row : List ℕ → Question → List ℕ → Row
+row ss q seen = record { samples = ss; question = q; seen = seen }
+
+-- a program of 0Fh with lock 15 open, up to its acceptance
+abbrev accepted : List ℕ
+accepted = writes quiet lock15 0 ++ (writes quiet target 0x40 ++ writesTo 12 target 0x0F)
+
+-- an erase of block 15, suspended
+abbrev suspended : List ℕ
+suspended =
+    writes quiet lock15 0
+    ++ (writes quiet target 0x20 ++ (writes quiet target 0xD0 ++ (writes quiet target 0xB0 ++ idles quiet 40)))
+
+abbrev pub table : List Row
+table =
+    row (reads maker) (answers 19) (replicate 12 0 ++ (0x15 ∷ 0x15 ∷ 0x10 ∷ 0x10 ∷ 0x12 ∷ 0x1F ∷ 0 ∷ []))
+    ∷ row (writes quiet target 0x40 ++ writes quiet target 0x0F) status (0x82 ∷ [])
+    ∷ row (writes quiet target 0x40 ++ (writes quiet target 0x0F ++ idles quiet 40)) byte (0x5A ∷ [])
+    ∷ row (writes quiet target 0x40 ++ writes unpowered target 0x0F) status (0x88 ∷ [])
+    ∷ row (accepted ++ idles quiet 32) byte (0x5A ∷ [])
+    ∷ row (accepted ++ idles quiet 33) byte (0x0A ∷ [])
+    ∷ row (accepted ++ idles topLow 33) byte (0x0A ∷ [])
+    ∷ row (writes quiet target 0x20 ++ writes quiet target 0) status (0xB0 ∷ [])
+    ∷ row (writes quiet lock15 3 ++ (writes quiet lock15 0 ++ reads lock15)) (answers 4) (0x13 ∷ 0x10 ∷ 0x1F ∷ 0 ∷ [])
+    ∷ row (writes quiet lock14 0xFF ++ reads lock14) (answers 4) (0x17 ∷ 0x10 ∷ 0x1F ∷ 0 ∷ [])
+    ∷ row (writesTo 11 target 0x90 ++ ((quiet + 15) ∷ idles quiet 5)) controls (0 ∷ 0 ∷ [])
+    ∷ row suspended status (0xC0 ∷ [])
+    ∷ row (suspended ++ (writes quiet target 0x40 ++ writes quiet target 0)) status (0xD0 ∷ [])
+    ∷ row (accepted ++ ((inReset + 31) ∷ [])) marks (0x8000 ∷ [])
+    ∷ row (accepted ++ ((inReset + 31) ∷ [])) status (0x80 ∷ [])
+    ∷ []
+
+abbrev start : List ℕ → World
+start image = world (freshOf 0 (times 1 1 1)) image
+
+-- every row shows what is to be seen
+unfoldable pub Examples : Type 0
+Examples =
+    (image : List ℕ)
+    → 0xF0005 < length image
+    → getD image 0xF0005 0 ≡ 0x5A
+    → map (λ (r : Row). shows (r .question) (r .samples) (start image)) table ≡ map (λ (r : Row). r .seen) table
