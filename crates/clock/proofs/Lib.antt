@@ -1,3 +1,5 @@
 pub mod Parts
 pub mod Doors
 pub mod Kept
+pub mod Broken
+pub mod Pins

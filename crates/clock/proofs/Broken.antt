@@ -1,0 +1,302 @@
+-- A frame that is broken off before its last data nibble gives no command: but for the frame, all is as on the same
+-- clocks with the bus idle. Of every device, sound or not. Assumes nothing.
+use mathlib.Core.Path.{_≡_, _∙_, sym, refl, ap}
+use mathlib.Core.Bool.{Bool, true, false, cond, not, _&&_}
+use mathlib.Core.List.{List, [], _∷_, _++_, map}
+use Prim.Native.Nat.{ℕ, suc, _+_, _/_, _≤_}
+use native.Mathlib.Omega.{arith}
+use lib.Dec.{eqb, ltb}
+use lib.ListN.{length}
+use borrow.Author.Tests.{ltb-false, eqb-true, ne-eqb, not-true}
+use Rattle.laws.proofs.Rules.{Answer, yes, no, ask, clash, and-left, and-right}
+use Rattle.record.specs.declared.Frame.{Frame}
+use Rattle.record.specs.declared.Controller.{Controller}
+use Rattle.record.specs.declared.Device.{Device}
+use Rattle.record.specs.Record.{frame, idle, isIdle, isRead, isWrite}
+use Rattle.record.specs.Sample.{lines, frameLine}
+use Rattle.effect.specs.Effect.{applied}
+use Rattle.operation.specs.Clock.{countedOf}
+use Rattle.bus.specs.declared.Asked.{Asked}
+use Rattle.bus.specs.declared.Asked.the-variants.{Nothing as Silent, Read, Write}
+use Rattle.bus.specs.Frames.{begun, headed, readOn, writeOn, nextOf, framedOf, askedOf}
+use Rattle.clock.specs.Clock.{isReset, resetDevice, withFrame, answeredTo, servedOf, afterController, imageAfter, advancedOf}
+use Rattle.clock.specs.Fold.{World, world, onward, through}
+
+-- the sample with its frame line high
+unfoldable pub raised : ℕ → ℕ
+raised sample = cond (eqb (frameLine sample) 0) (sample + 16) sample
+
+-- the frame line is high on each of the samples
+abbrev pub high : List ℕ → Bool
+high [] = true
+high (s ∷ ss) = eqb (frameLine s) 1 && high ss
+
+-- samples on which a frame is broken off before its last data nibble: the frame line is low where it begins, then
+-- high, and low again, on clock 12 at the latest; on any clock for a read, which gives no command at all
+pub data BrokenOff : List ℕ → Type 0 where
+  early : (first : ℕ) (others : List ℕ) (last : ℕ)
+      → frameLine first ≡ 0
+      → high others ≡ true
+      → length others ≤ 10
+      → frameLine last ≡ 0
+      → BrokenOff (first ∷ (others ++ (last ∷ [])))
+  reading : (first : ℕ) (others : List ℕ) (last : ℕ)
+      → frameLine first ≡ 0
+      → lines first ≡ 13
+      → high others ≡ true
+      → frameLine last ≡ 0
+      → BrokenOff (first ∷ (others ++ (last ∷ [])))
+
+-- within n clocks more the frame writes no byte: it does not come to clock 12, or is no write
+pub data Calm (n : ℕ) (f : Frame) : Type 0 where
+  before : f .clock + n ≤ 11 → Calm n f
+  other : isWrite f ≡ false → Calm n f
+
+-- the world with its bus idle
+abbrev pub silenced : World → World
+silenced w = world (withFrame (w .device) idle) (w .image)
+
+-- lock registers, and the controller with its setup, mode, error bits, operations and marks
+pub record Core : Type 0 where
+  pub locks : List ℕ
+  pub controller : Controller
+
+abbrev pub core : Device → Core
+core d = record { locks = d .locks; controller = d .controller }
+
+-- a byte is to be written
+abbrev pub isWritten : Asked → Bool
+isWritten Silent = false
+isWritten (Read address) = false
+isWritten (Write address byte) = true
+
+-- a byte is written on the clock of this sample
+unfoldable pub writes : World → ℕ → Bool
+writes w sample =
+    cond (isReset sample) false (isWritten (askedOf (framedOf (w .device .straps) (w .device .frame) sample)))
+
+-- what is tested for happens on none of the clocks
+abbrev pub never : (World → ℕ → Bool) → List ℕ → World → Bool
+never test [] w = true
+never test (s ∷ ss) w = not (test w s) && never test ss (onward w s)
+
+module _ (test : World → ℕ → Bool) (s : ℕ) (ss : List ℕ) (w : World) (e : never test (s ∷ ss) w ≡ true) where
+  pub not-now : test w s ≡ false
+  not-now = not-true (test w s) (and-left (not (test w s)) (never test ss (onward w s)) e)
+
+  pub not-later : never test ss (onward w s) ≡ true
+  not-later = and-right (not (test w s)) (never test ss (onward w s)) e
+
+-- a raised sample resets where the sample does, and its frame line is high
+raised-reset : (s : ℕ) → isReset (raised s) ≡ isReset s
+unfolding raised isReset
+raised-reset s = pick (ask (eqb (frameLine s) 0))
+  where
+    pick : Answer (eqb (frameLine s) 0) → isReset (raised s) ≡ isReset s
+    pick (yes a) =
+        let h = eqb-true (frameLine s) 0 a in
+        let r : (s + 16) / 32 ≡ s / 32 = omega arith in
+        let i : (s + 16) / 64 ≡ s / 64 = omega arith in
+        rw (a, r, i)
+    pick (no a) = rw a
+
+raised-high : (s : ℕ) → eqb (frameLine (raised s)) 0 ≡ false
+unfolding raised
+raised-high s = pick (ask (eqb (frameLine s) 0))
+  where
+    pick : Answer (eqb (frameLine s) 0) → eqb (frameLine (raised s)) 0 ≡ false
+    pick (yes a) =
+        let h = eqb-true (frameLine s) 0 a in
+        let r : frameLine (s + 16) ≡ 1 = omega arith in
+        rw (a, r)
+    pick (no a) = rw (a, a)
+
+-- an idle bus stays idle
+stays : (straps s : ℕ) → framedOf straps idle (raised s) ≡ idle
+unfolding framedOf
+stays straps s = rw (raised-high s)
+
+-- the frame after the bus's clock
+abbrev framed : World → ℕ → Frame
+framed w s = framedOf (w .device .straps) (w .device .frame) s
+
+-- but for the frame, a clock on which no byte is written is one with the bus idle
+answered-silent : (a : Asked) (d : Device) (image : List ℕ) (s : ℕ)
+    → isWritten a ≡ false
+    → withFrame (answeredTo a d image s .device) idle ≡ withFrame d idle
+answered-silent Silent d image s e = refl
+answered-silent (Read address) d image s e = refl
+answered-silent (Write address byte) d image s e = clash (sym e)
+
+pub unheard-once : (w : World) (s : ℕ) → writes w s ≡ false → silenced (onward w s) ≡ onward (silenced w) (raised s)
+unfolding onward advancedOf imageAfter resetDevice servedOf writes askedOf
+unheard-once w s = pick (ask (isReset s))
+  where
+    pick : Answer (isReset s) → writes w s ≡ false → silenced (onward w s) ≡ onward (silenced w) (raised s)
+    pick (yes a) e = rw (raised-reset s, a)
+    pick (no a) e =
+        rw (raised-reset s, a, stays (w .device .straps) s)
+        (ap (λ (d : Device). world d (applied (countedOf (w .device .controller) .effect) (w .image)))
+        (answered-silent (askedOf (framed w s)) (withFrame (afterController (w .device)) (framed w s)) _ s (rw a at e)))
+
+pub unheard : (ss : List ℕ) (w : World) → never writes ss w ≡ true → silenced (through ss w) ≡ through (map raised ss) (silenced w)
+unheard [] w e = refl
+unheard (s ∷ ss) w e =
+    unheard ss (onward w s) (not-later writes s ss w e)
+    ∙ ap (through (map raised ss)) (unheard-once w s (not-now writes s ss w e))
+
+-- where the frame line is high, the frame goes one clock on at most, and its kind stays, or the bus is idle
+record Follows (f g : Frame) : Type 0 where
+  clock : g .clock ≤ f .clock + 1
+  kind : isWrite f ≡ false → isWrite g ≡ false
+
+goes : (f : Frame) (c b a : ℕ) → c ≤ f .clock + 1 → Follows f (frame (f .kind) c b a)
+goes f c b a h = record { clock = h; kind = λ e. e }
+
+stops : (f : Frame) → Follows f idle
+stops f = record { clock = omega arith; kind = λ e. refl }
+
+headed-follows : (straps : ℕ) (f : Frame) (n : ℕ) → Follows f (headed straps f n)
+unfolding headed
+headed-follows straps f n = pick (ask (eqb (f .clock) 1)) (ask (eqb n straps)) (ask (ltb (f .clock) 9)) (ask (eqb n 0))
+  where
+    pick : Answer (eqb (f .clock) 1) → Answer (eqb n straps) → Answer (ltb (f .clock) 9) → Answer (eqb n 0) → Follows f (headed straps f n)
+    pick (yes a) (yes b) c d = let h = eqb-true (f .clock) 1 a in rw (a, b) (goes f 2 _ _ (omega arith))
+    pick (yes a) (no b) c d = rw (a, b) (stops f)
+    pick (no a) b (yes c) d = rw (a, c) (goes f (f .clock + 1) _ _ (omega arith))
+    pick (no a) b (no c) (yes d) = let h = ltb-false (f .clock) 9 c in rw (a, c, d) (goes f 10 _ _ (omega arith))
+    pick (no a) b (no c) (no d) = rw (a, c, d) (stops f)
+
+read-follows : (f : Frame) → Follows f (readOn f)
+unfolding readOn
+read-follows f = pick (ask (ltb (f .clock) 18))
+  where
+    pick : Answer (ltb (f .clock) 18) → Follows f (readOn f)
+    pick (yes a) = rw a (goes f (f .clock + 1) _ _ (omega arith))
+    pick (no a) = rw a (stops f)
+
+write-follows : (f : Frame) (n : ℕ) → Follows f (writeOn f n)
+unfolding writeOn
+write-follows f n = pick (ask (eqb (f .clock) 10)) (ask (eqb (f .clock) 11)) (ask (ltb (f .clock) 16))
+  where
+    pick : Answer (eqb (f .clock) 10) → Answer (eqb (f .clock) 11) → Answer (ltb (f .clock) 16) → Follows f (writeOn f n)
+    pick (yes a) b c = let h = eqb-true (f .clock) 10 a in rw a (goes f 11 _ _ (omega arith))
+    pick (no a) (yes b) c = let h = eqb-true (f .clock) 11 b in rw (a, b) (goes f 12 _ _ (omega arith))
+    pick (no a) (no b) (yes c) = rw (a, b, c) (goes f (f .clock + 1) _ _ (omega arith))
+    pick (no a) (no b) (no c) = rw (a, b, c) (stops f)
+
+follows : (straps : ℕ) (f : Frame) (s : ℕ) → frameLine s ≡ 1 → Follows f (framedOf straps f s)
+unfolding framedOf nextOf
+follows straps f s e = pick (ask (isIdle f)) (ask (ltb (f .clock) 10)) (ask (isRead f))
+  where
+    pick : Answer (isIdle f) → Answer (ltb (f .clock) 10) → Answer (isRead f) → Follows f (framedOf straps f s)
+    pick (yes b) c d = rw (e, b) (goes f (f .clock) _ _ (omega arith))
+    pick (no b) (yes c) d = rw (e, b, c) (headed-follows straps f (lines s))
+    pick (no b) (no c) (yes d) = rw (e, b, c, d) (read-follows f)
+    pick (no b) (no c) (no d) = rw (e, b, c, d) (write-follows f (lines s))
+
+calm-next : (n straps : ℕ) (f : Frame) (s : ℕ) → frameLine s ≡ 1 → Calm (suc n) f → Calm n (framedOf straps f s)
+calm-next n straps f s e (before h) = let q = follows straps f s e in before (omega arith)
+calm-next n straps f s e (other h) = other (follows straps f s e .kind h)
+
+-- where the frame line is low, a frame is at clock 1 at most
+begun-calm : (n nibble : ℕ) → n ≤ 10 → Calm n (begun nibble)
+unfolding begun
+begun-calm n nibble h = pick (ask (eqb nibble 13)) (ask (eqb nibble 14))
+  where
+    pick : Answer (eqb nibble 13) → Answer (eqb nibble 14) → Calm n (begun nibble)
+    pick (yes a) b = rw a (other refl)
+    pick (no a) (yes b) = rw (a, b) (before (omega arith))
+    pick (no a) (no b) = rw (a, b) (other refl)
+
+calm-low : (n straps : ℕ) (f : Frame) (s : ℕ) → frameLine s ≡ 0 → n ≤ 10 → Calm n (framedOf straps f s)
+unfolding framedOf
+calm-low n straps f s e h = rw e (begun-calm n (lines s) h)
+
+calm-read : (n straps : ℕ) (f : Frame) (s : ℕ) → frameLine s ≡ 0 → lines s ≡ 13 → Calm n (framedOf straps f s)
+unfolding framedOf begun
+calm-read n straps f s e h = rw (e, h) (other refl)
+
+-- a byte is written on clock 12 of a write
+calm-asked : (n : ℕ) (f : Frame) → Calm n f → isWritten (askedOf f) ≡ false
+unfolding askedOf
+calm-asked n f = pick (ask (isRead f)) (ask (eqb (f .clock) 15)) (ask (isWrite f))
+  where
+    pick : Answer (isRead f) → Answer (eqb (f .clock) 15) → Answer (isWrite f) → Calm n f → isWritten (askedOf f) ≡ false
+    pick (yes a) (yes b) c k = rw (a, b)
+    pick (yes a) (no b) c k = rw (a, b)
+    pick (no a) b (no c) k = rw (a, c)
+    pick (no a) b (yes c) (before h) = rw (a, c, ne-eqb (f .clock) 12 (λ e. omega arith))
+    pick (no a) b (yes c) (other h) = clash (sym h ∙ c)
+
+calm-writes : (n : ℕ) (w : World) (s : ℕ) → Calm n (framed w s) → writes w s ≡ false
+unfolding writes
+calm-writes n w s k = pick (ask (isReset s))
+  where
+    pick : Answer (isReset s) → writes w s ≡ false
+    pick (yes a) = rw a
+    pick (no a) = rw a (calm-asked n (framed w s) k)
+
+-- the rest of a clock leaves kind and clock of the frame, or drops the frame
+answered-calm : (n : ℕ) (a : Asked) (d : Device) (image : List ℕ) (s : ℕ)
+    → Calm n (d .frame)
+    → isWritten a ≡ false
+    → Calm n (answeredTo a d image s .device .frame)
+answered-calm n Silent d image s k e = k
+answered-calm n (Read address) d image s (before h) e = before h
+answered-calm n (Read address) d image s (other h) e = other h
+answered-calm n (Write address byte) d image s k e = clash (sym e)
+
+calm-onward : (n : ℕ) (w : World) (s : ℕ) → Calm n (framed w s) → Calm n (onward w s .device .frame)
+unfolding onward advancedOf resetDevice servedOf
+calm-onward n w s k = pick (ask (isReset s))
+  where
+    pick : Answer (isReset s) → Calm n (onward w s .device .frame)
+    pick (yes a) = rw a (other refl)
+    pick (no a) =
+        rw a
+        (answered-calm n (askedOf (framed w s)) (withFrame (afterController (w .device)) (framed w s)) _ s k (calm-asked n (framed w s) k))
+
+-- no byte is written: from a frame in progress, and from its first clock on
+pub unwritten-on : (hs : List ℕ) (t : ℕ) (w : World)
+    → Calm (length hs) (w .device .frame)
+    → high hs ≡ true
+    → frameLine t ≡ 0
+    → never writes (hs ++ (t ∷ [])) w ≡ true
+unwritten-on [] t w k e f = rw (calm-writes 0 w t (calm-low 0 (w .device .straps) (w .device .frame) t f (omega arith)))
+unwritten-on (h ∷ hs) t w k e f =
+    let a = eqb-true (frameLine h) 1 (and-left (eqb (frameLine h) 1) (high hs) e) in
+    let c = calm-next (length hs) (w .device .straps) (w .device .frame) h a k in
+    rw (calm-writes (length hs) w h c)
+    (unwritten-on hs t (onward w h) (calm-onward (length hs) w h c) (and-right (eqb (frameLine h) 1) (high hs) e) f)
+
+begins : (s : ℕ) (hs : List ℕ) (t : ℕ) (w : World)
+    → Calm (length hs) (framed w s)
+    → high hs ≡ true
+    → frameLine t ≡ 0
+    → never writes (s ∷ (hs ++ (t ∷ []))) w ≡ true
+begins s hs t w c e f =
+    rw (calm-writes (length hs) w s c) (unwritten-on hs t (onward w s) (calm-onward (length hs) w s c) e f)
+
+pub unwritten : (ss : List ℕ) (w : World) → BrokenOff ss → never writes ss w ≡ true
+unwritten ss w (early s hs t b e l f) = begins s hs t w (calm-low (length hs) (w .device .straps) (w .device .frame) s b l) e f
+unwritten ss w (reading s hs t b r e f) = begins s hs t w (calm-read (length hs) (w .device .straps) (w .device .frame) s b r) e f
+
+-- but for the frame, the world is as with the bus idle: from a frame in progress, and from its first clock on
+pub broken-on : (hs : List ℕ) (t : ℕ) (w : World)
+    → Calm (length hs) (w .device .frame)
+    → high hs ≡ true
+    → frameLine t ≡ 0
+    → silenced (through (hs ++ (t ∷ [])) w) ≡ through (map raised (hs ++ (t ∷ []))) (silenced w)
+broken-on hs t w k e f = unheard (hs ++ (t ∷ [])) w (unwritten-on hs t w k e f)
+
+pub broken : (ss : List ℕ) (w : World) → BrokenOff ss → silenced (through ss w) ≡ through (map raised ss) (silenced w)
+broken ss w b = unheard ss w (unwritten ss w b)
+
+-- so setup, mode, locks, error bits, operations and marks are, and so is the image
+module _ (ss : List ℕ) (d : Device) (image : List ℕ) (b : BrokenOff ss) where
+  pub no-command : core (through ss (world d image) .device) ≡ core (through (map raised ss) (world (withFrame d idle) image) .device)
+  no-command = ap (λ (w : World). core (w .device)) (broken ss (world d image) b)
+
+  pub no-effect : through ss (world d image) .image ≡ through (map raised ss) (world (withFrame d idle) image) .image
+  no-effect = ap (λ (w : World). w .image) (broken ss (world d image) b)
