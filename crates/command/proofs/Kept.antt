@@ -264,7 +264,7 @@ failing-kept c bits law e =
     let q = clauses c e in unset-made _ (q .mode) (kept-bits bits law (c .errors) (q .errors)) (q .outer) (q .inner) refl
 
 -- an operation as it is accepted is sound, and runs
-accepted-fits : (ts : Times) (setup address byte : ℕ) → timesFit ts ≡ true → address < 1048576 → operationFits (acceptedOf ts setup address byte) ≡ true
+pub accepted-fits : (ts : Times) (setup address byte : ℕ) → timesFit ts ≡ true → address < 1048576 → operationFits (acceptedOf ts setup address byte) ≡ true
 unfolding operationFits acceptedOf leftFits stateFits
 accepted-fits ts setup address byte t a = pick (ask (eqb setup 1))
   where
@@ -293,7 +293,7 @@ one : (n : ℕ) → n < 2 → (n ≡ 0 → ⊥) → n ≡ 1
 one n l x = omega arith
 
 -- a setup beside a condition that allows none
-refuse : (s : ℕ) → eqb s 0 ≡ false → ltb s 1 ≡ true → false ≡ true
+pub refuse : (s : ℕ) → eqb s 0 ≡ false → ltb s 1 ≡ true → false ≡ true
 refuse s e h =
     let l = ltb-true s 1 h in
     let z : s ≡ 0 = omega arith in

@@ -115,7 +115,7 @@ table =
     ∷ row (writes quiet target 0x20 ++ writes quiet target 0) status (0xB0 ∷ [])
     ∷ row (writes quiet lock15 3 ++ (writes quiet lock15 0 ++ reads lock15)) (answers 4) (0x13 ∷ 0x10 ∷ 0x1F ∷ 0 ∷ [])
     ∷ row (writes quiet lock14 0xFF ++ reads lock14) (answers 4) (0x17 ∷ 0x10 ∷ 0x1F ∷ 0 ∷ [])
-    ∷ row (writesTo 11 target 0x90 ++ ((quiet + 15) ∷ idles quiet 5)) controls (0 ∷ 0 ∷ [])
+    ∷ row (writesTo 11 target 0x90 ++ ((quiet + 9) ∷ idles quiet 5)) controls (0 ∷ 0 ∷ [])
     ∷ row suspended status (0xC0 ∷ [])
     ∷ row (suspended ++ (writes quiet target 0x40 ++ writes quiet target 0)) status (0xD0 ∷ [])
     ∷ row (accepted ++ ((inReset + 31) ∷ [])) marks (0x8000 ∷ [])

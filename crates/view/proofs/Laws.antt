@@ -15,13 +15,13 @@ use Rattle.view.specs.Shown.{allZero, canShow, readLocked, shown, part, 
 use Rattle.view.proofs.Ready.{ready}
 
 -- the part that the numbers name has the contents shown
-named-by : (a b : Bool) (image page : List ℕ) (start : ℕ)
-    → contents (cond a (cond b (part 2 0 65536) (part 1 start 65536)) (part 0 0 0)) image page
-    ≡ cond a (cond b (take 65536 page) (take 65536 (drop start image))) []
+named-by : (a b : Bool) (image page : List ℕ) (start size : ℕ)
+    → contents (cond a (cond b (part 2 0 size) (part 1 start size)) (part 0 0 0)) image page
+    ≡ cond a (cond b (take size page) (take size (drop start image))) []
 unfolding contents
-named-by true true image page start = refl
-named-by true false image page start = refl
-named-by false b image page start = refl
+named-by true true image page start size = refl
+named-by true false image page start size = refl
+named-by false b image page start size = refl
 
 zero-at : (xs : List ℕ) (i : ℕ) → allZero xs ≡ true → getD xs i 0 ≡ 0
 zero-at [] i e = refl
@@ -31,7 +31,7 @@ zero-at (x ∷ xs) (suc i) e = zero-at xs i (and-right (eqb x 0) (allZero xs) e)
 module _ (d : Device) (image page : List ℕ) (block : ℕ) where
   pub named : contents (partShown d image page block) image page ≡ shown d image page block
   unfolding partShown shown
-  named = named-by (canShow d image page block) (readLocked d block) image page (block * 65536)
+  named = named-by (canShow d image page block) (readLocked d block) image page (block * 65536) 65536
 
   -- nothing is shown where nothing can be
   pub shown-none : canShow d image page block ≡ false → shown d image page block ≡ []

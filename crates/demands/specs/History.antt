@@ -1,0 +1,160 @@
+-- Demand 3 in its own words: histories, the operations of a block as they are read off the devices, what was allowed, and
+-- what the finished operations make of the block's first contents. Assumes nothing.
+use Prim.Native.Nat.{ℕ, _*_, _%_, _<_}
+use mathlib.Core.Path.{_≡_}
+use mathlib.Core.Bool.{Bool, true, false, cond, not}
+use mathlib.Core.List.{List, [], _∷_, _++_}
+use lib.Bits.{bitAnd}
+use lib.Dec.{eqb, ltb}
+use lib.ListN.{length, getD, set, take, drop, replicate}
+use Rattle.laws.specs.All.{all}
+use Rattle.record.specs.declared.Operation.{Operation}
+use Rattle.record.specs.declared.Controller.{Controller}
+use Rattle.record.specs.Record.{isAbsent, isProgram, isSuspended, absent, blockOf}
+use Rattle.record.specs.Sample.{rp, init, tbl, wp, voltage}
+use Rattle.device.specs.Power.{poweredUp, timesSet}
+use Rattle.operation.specs.Marks.{marked}
+use Rattle.clock.specs.Step.{steppedOf, storedOf}
+use Rattle.clock.specs.Fold.{World, world}
+
+-- a history is any list of clocks and changes of times
+pub data Event : Type 0 where
+  clock : ℕ → Event
+  retime : ℕ → ℕ → ℕ → Event
+
+-- each is a public call: a step with a sample, or set times
+abbrev pub after : Event → World → World
+after (clock sample) w =
+    world (steppedOf (w .device) (w .image) sample .device) (storedOf (w .device) (w .image) sample)
+after (retime program slice pause) w = world (timesSet (w .device) program slice pause .device) (w .image)
+
+abbrev pub ending : List Event → World → World
+ending [] w = w
+ending (e ∷ es) w = ending es (after e w)
+
+-- power-up, on the image as it is then
+abbrev pub powered : ℕ → ℕ → ℕ → ℕ → List ℕ → World
+powered straps program slice pause image = world (poweredUp straps program slice pause .device) image
+
+-- the operation of a block, as the device shows it: the one that stands there, running, pausing or suspended
+unfoldable pub isOn : ℕ → Operation → Bool
+isOn block o = cond (isAbsent o) false (eqb (blockOf (o .address)) block)
+
+unfoldable pub opOf : ℕ → Controller → Operation
+opOf block c = cond (isOn block (c .outer)) (c .outer) (cond (isOn block (c .inner)) (c .inner) absent)
+
+abbrev pub opOn : ℕ → World → Operation
+opOn block w = opOf block (w .device .controller)
+
+-- there is one
+abbrev pub isThere : ℕ → World → Bool
+isThere block w = not (isAbsent (opOn block w))
+
+-- an operation is at its last clock: it counts, one clock is left, and no slice behind this one
+unfoldable pub isLast : Operation → Bool
+isLast o =
+    cond (isAbsent o) false
+    (cond (isSuspended o) false (cond (ltb 1 (o .left .0)) false (cond (isProgram o) true (not (ltb 1 (o .slices))))))
+
+-- the block's operation reaches its last clock: a sample that is stepped and resets nothing
+unfoldable pub finishes : ℕ → Event → World → Bool
+finishes block (clock sample) w =
+    cond (eqb (voltage sample) 3) false
+    (cond (eqb (rp sample) 0) false (cond (eqb (init sample) 0) false (isLast (opOn block w))))
+finishes block (retime program slice pause) w = false
+
+-- what becomes of the operation that stands on a block
+pub data Fate : Type 0 where
+  finished : Fate
+  cut : Fate
+  unfinished : Fate
+
+abbrev pub fate : ℕ → List Event → World → Fate
+fate block [] w = unfinished
+fate block (e ∷ es) w =
+    cond (finishes block e w) finished (cond (isThere block (after e w)) (fate block es (after e w)) cut)
+
+abbrev pub isFinished : Fate → Bool
+isFinished finished = true
+isFinished cut = false
+isFinished unfinished = false
+
+-- an operation as it was accepted, the sample and the lock registers of that clock, and what became of it
+pub record Entry : Type 0 where
+  pub operation : Operation
+  pub sample : ℕ
+  pub locks : List ℕ
+  pub fate : Fate
+
+abbrev pub sampleOf : Event → ℕ
+sampleOf (clock sample) = sample
+sampleOf (retime program slice pause) = 0
+
+-- accepted by an event: there after it, not there before
+abbrev pub accepted : ℕ → Event → List Event → World → List Entry
+accepted block e es w =
+    cond (isThere block w) []
+    (cond (isThere block (after e w))
+    (record {
+      operation = opOn block (after e w);
+      sample = sampleOf e;
+      locks = w .device .locks;
+      fate = fate block es (after e w);
+    } ∷ [])
+    [])
+
+-- the operations of a block, in order of acceptance
+abbrev pub operations : ℕ → List Event → World → List Entry
+operations block [] w = []
+operations block (e ∷ es) w = accepted block e es w ++ operations block es (after e w)
+
+-- allowed, from the raw bits of the sample and the lock register of the block: voltage class not 0, TBL high for block
+-- 15 and WP for the others, lock bit 0 clear
+unfoldable pub allowed : ℕ → ℕ → List ℕ → Bool
+allowed block sample locks =
+    all
+    (not (eqb (voltage sample) 0)
+    ∷ cond (eqb block 15) (eqb (tbl sample) 1) (eqb (wp sample) 1)
+    ∷ eqb (getD locks block 0 % 2) 0
+    ∷ [])
+
+abbrev pub allAllowed : ℕ → List Entry → Bool
+allAllowed block [] = true
+allAllowed block (e ∷ es) = cond (allowed block (e .sample) (e .locks)) (allAllowed block es) false
+
+-- the contents of a block
+abbrev pub contents : ℕ → List ℕ → List ℕ
+contents block image = take 65536 (drop (block * 65536) image)
+
+-- a block filled with FFh
+unfoldable pub erased : List ℕ
+erased = replicate 65536 255
+
+-- an operation done to its block at once: a program ANDs one byte, an erase fills the block with FFh
+unfoldable pub whole : Operation → List ℕ → List ℕ
+whole o x =
+    cond (isProgram o) (set x (o .address % 65536) (bitAnd (getD x (o .address % 65536) 0) (o .«data»))) erased
+
+-- the finished ones, one after another
+abbrev pub done : List Entry → List ℕ → List ℕ
+done [] x = x
+done (e ∷ es) x = done es (cond (isFinished (e .fate)) (whole (e .operation) x) x)
+
+-- demand 3: a block with no mark and no unfinished operation holds what its first contents become
+unfoldable pub Demand3 : Type 0
+Demand3 =
+    (straps program slice pause : ℕ) (image : List ℕ) (history : List Event) (block : ℕ)
+    → length image ≡ 1048576
+    → block < 16
+    → marked (ending history (powered straps program slice pause image) .device .controller .marks) block ≡ false
+    → isThere block (ending history (powered straps program slice pause image)) ≡ false
+    → contents block (ending history (powered straps program slice pause image) .image)
+    ≡ done (operations block history (powered straps program slice pause image)) (contents block image)
+
+-- and each of its operations was allowed as pins, voltage and lock register stood at its acceptance
+unfoldable pub Demand3Allowed : Type 0
+Demand3Allowed =
+    (straps program slice pause : ℕ) (image : List ℕ) (history : List Event) (block : ℕ)
+    → length image ≡ 1048576
+    → block < 16
+    → allAllowed block (operations block history (powered straps program slice pause image)) ≡ true
