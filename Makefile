@@ -18,9 +18,11 @@ CFLAGS  := -std=c11 -O2 -Wall -Wextra -Wconversion -Werror
 MACHINE ?= $(shell uname -m)
 ifeq ($(MACHINE),x86_64)
 CC := gcc
+AR := ar
 NM := nm
 else
 CC := tools/cross-cc
+AR := x86_64-linux-gnu-ar
 NM := x86_64-linux-gnu-nm
 endif
 
@@ -43,8 +45,11 @@ ifdef QUICK
 $(POD_LIB):
 	@echo "expected a library at $@, found none: make lib builds it" >&2; exit 1
 else
+# The step in place stands in a room of its own, whose archive holds its export; the two are made one.
 $(POD_LIB): crates.txt $(PROVED) | setup
+	rt staticlib inplace
 	rt staticlib pod
+	cd $(dir $(POD_LIB)) && $(AR) x libinplace.a && $(AR) rcs libpod.a inplace.o && rm -f inplace.o
 endif
 
 setup:
@@ -62,8 +67,8 @@ CLOCK  := pod_step pod_clock pod_power_up pod_set_times pod_status pod_marks
 has = $(if $(filter-out $(HAS),$(1)),,yes)
 LACKS := $(filter-out $(HAS),$(FACE))
 
-# Becomes --whole once the library has the whole face: from then on a function that is missing is a fault.
-WHOLE :=
+# The library has the whole face: a function that is missing is a fault.
+WHOLE := --whole
 
 NEEDS    := build
 PROGRAMS := $(BUILD)/layout_test

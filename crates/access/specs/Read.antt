@@ -25,7 +25,8 @@ arrayAddress address = address % 1048576
 unfoldable pub lockOf : List ℕ → ℕ → ℕ
 lockOf locks address = getD locks (blockOf address) 0
 
--- a lock as it stands, the inputs with FGPI0 in bit 0, maker 20h, device 2Dh; others read 00h
+-- a register is known by all 28 bits (house): a lock as it stands, the inputs with FGPI0 in bit 0, maker 20h, device
+-- 2Dh; others read 00h
 abbrev pub standing : List ℕ → ℕ → Register → ℕ
 standing locks sample (Lock b) = getD locks b 0
 standing locks sample Inputs = inputs sample
@@ -40,7 +41,8 @@ registerValue locks sample address = standing locks sample (registerAt address)
 unfoldable pub signatureOf : ℕ → ℕ
 signatureOf address = cond (eqb address 0) 0x20 (cond (eqb address 1) 0x2D 0)
 
--- by mode: the array byte, 00h if lock bit 2 is set; status at any address; signature
+-- by mode: the array byte, 00h if lock bit 2 is set; status at any address; signature. A suspended block reads as it
+-- stands (house): no operation is among the arguments but in the status
 unfoldable pub arrayValue : Controller → ℕ → ℕ → ℕ → ℕ
 arrayValue c lock address byte =
     cond (eqb (c .mode) 0) (cond (eqb (lock / 4 % 2) 1) 0 byte)

@@ -4,3 +4,4 @@ pub mod Counting
 pub mod Moving
 pub mod Turns
 pub mod Demand3
+pub mod Demand2

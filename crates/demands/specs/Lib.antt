@@ -1,2 +1,3 @@
 pub mod Examples
+pub mod Demand2
 pub mod History

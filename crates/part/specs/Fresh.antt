@@ -1,5 +1,4 @@
--- Document 01, "The part's fixed numbers belong to the part" and "Power up": the fixed numbers, and the device as it
--- comes up. Assumes nothing.
+-- Document 01, "Power up": the device as it comes up. Assumes nothing.
 use Prim.Native.Nat.{ℕ}
 use lib.ListN.{replicate}
 use Rattle.units.specs.declared.Times.{Times}

@@ -1,7 +1,7 @@
 -- Document 01, "Settle": one idle sample is repeated up to N times; the count is the least number of samples after which
 -- status bit 7 is 1, and 0 if it is 1 already. Assumes nothing.
 use Prim.Native.Nat.{ℕ, zero, suc, _+_, _/_, _%_}
-use mathlib.Core.Bool.{Bool, true, false, cond}
+use mathlib.Core.Bool.{Bool, true, cond}
 use mathlib.Core.List.{List}
 use lib.Dec.{eqb}
 use lib.ListN.{length}
@@ -47,8 +47,11 @@ abbrev pub settled : ℕ → ℕ → Device → Settled
 settled number count d = record { number = number; count = count; device = d }
 
 -- done with the least count, or 10 with count N and the device after N samples
+abbrev pub stopNumber : Bool → ℕ
+stopNumber ready = cond ready 0 10
+
 abbrev pub outcome : Stop → Settled
-outcome s = settled (cond (s .ready) 0 10) (s .count) (s .world .device)
+outcome s = settled (stopNumber (s .ready)) (s .count) (s .world .device)
 
 unfoldable pub settledOf : Device → List ℕ → ℕ → ℕ → Settled
 settledOf d image sample limit =

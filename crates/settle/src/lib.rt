@@ -1,5 +1,15 @@
 // Settle: one idle sample repeated until status bit 7 is 1, or as often as is allowed.
+use clock::advance;
+use device::sound;
+use device::status;
+use part::Part;
 use record::Device;
+ghost use mathlib.Core.Path.{_≡_};
+ghost use mathlib.Core.Bool.{true};
+ghost use lib.ListN.{length};
+ghost use Rattle.device.specs.Sound.{soundOf};
+ghost use Rattle.clock.specs.Fold.{world};
+ghost use Rattle.settle.specs.Settle.{isReady, isRestless, stop, settling, settleNumber, stopNumber, settledOf, imageSettled};
 
 // The numbered answer of a settle, how many samples were done, and the device after them.
 #[repr(C)]
@@ -7,4 +17,111 @@ pub struct Settled {
     pub number: u32,
     pub count: u32,
     pub device: Device,
+}
+
+// Where the repeating stopped: how many samples were done, whether status bit 7 is 1, and the device then.
+struct Waited {
+    pub count: u32,
+    pub ready: bool,
+    pub device: Device,
+}
+
+// Whether status bit 7 is 1.
+fn is_ready(d: Device) -> bool
+    ensures { λ r. ⌜ r ≡ isReady d ⌝ }
+{
+    let c = d.controller;
+    status(c) / 128 % 2 == 1
+}
+
+// Whether the frame line, RP or INIT is low.
+fn is_restless(sample: u16) -> bool
+    ensures { λ r. ⌜ r ≡ isRestless sample ⌝ }
+{
+    if sample / 16 % 2 == 0 {
+        return true;
+    }
+    if sample / 32 % 2 == 0 {
+        return true;
+    }
+    sample / 64 % 2 == 0
+}
+
+// A sound device through one sample, up to `limit` times. The device stays sound, so that is not tested again.
+fn wait(device: Device, image: &mut [u8], sample: u16, limit: u32) -> Waited
+    requires { ⌜ soundOf device ≡ true ⌝ }
+    requires { ⌜ length (now image) ≡ 1048576 ⌝ }
+    ensures { λ r. ⌜ stop (r .count) (r .ready) (world (r .device) (now (image .exit)))
+        ≡ settling sample limit 0 (world device (now (image .entry))) ⌝ }
+{
+    let mut d = device;
+    let mut count: u32 = 0;
+    while count < limit {
+        if is_ready(d) {
+            return Waited {
+                count,
+                ready: true,
+                device: d,
+            };
+        }
+        let a = advance(d, image, sample);
+        d = a.device;
+        count += 1;
+    }
+    Waited {
+        count,
+        ready: is_ready(d),
+        device: d,
+    }
+}
+
+// Which refusal a settle meets before it begins, 0 for none.
+fn settle_number(device: Device, image: &[u8], sample: u16) -> u32
+    ensures { λ r. ⌜ r ≡ settleNumber device (now (image .entry)) sample ⌝ }
+{
+    if sound(device) {
+        if image.len() == Part::BYTES {
+            if sample / 512 % 4 == 3 {
+                return 7;
+            }
+            if is_restless(sample) {
+                return 9;
+            }
+            return 0;
+        }
+        return 2;
+    }
+    1
+}
+
+// The number after the repeating: 0 where status bit 7 is 1, 10 where it is still 0.
+fn stop_number(ready: bool) -> u32
+    ensures { λ r. ⌜ r ≡ stopNumber ready ⌝ }
+{
+    if ready {
+        return 0;
+    }
+    10
+}
+
+// Settle: refused with nothing changed, done with the least count, or 10 with all of `limit` done.
+pub fn settle(device: Device, image: &mut [u8], sample: u16, limit: u32) -> Settled
+    ensures { λ r. ⌜ (r ≡ settledOf device (now (image .entry)) sample limit)
+        × (now (image .exit) ≡ imageSettled device (now (image .entry)) sample limit) ⌝ }
+{
+    let number = settle_number(device, image, sample);
+    if number == 0 {
+        let w = wait(device, image, sample, limit);
+        let last = w.device;
+        return Settled {
+            number: stop_number(w.ready),
+            count: w.count,
+            device: last,
+        };
+    }
+    Settled {
+        number,
+        count: 0,
+        device,
+    }
 }

@@ -1,9 +1,9 @@
 -- Document 01, "Run": from power-up through a stream of samples. Assumes nothing.
 use Prim.Native.Nat.{ℕ, _+_, _*_, _/_, _%_}
-use mathlib.Core.Bool.{Bool, true, false, cond, _||_}
+use mathlib.Core.Bool.{Bool, true, false, cond}
 use mathlib.Core.List.{List, [], _∷_, _++_}
 use lib.Dec.{eqb, ltb}
-use lib.ListN.{length, drop}
+use lib.ListN.{length, getD, drop}
 use Rattle.units.specs.Units.{times, timesFit}
 use Rattle.record.specs.Sample.{voltage}
 use Rattle.part.specs.Fresh.{freshOf}
@@ -16,6 +16,10 @@ abbrev pub samples : List ℕ → List ℕ
 samples [] = []
 samples (l ∷ []) = []
 samples (l ∷ h ∷ bytes) = (l + 256 * h) ∷ samples bytes
+
+-- the sample at place k of a stream
+abbrev pub sampleAt : List ℕ → ℕ → ℕ
+sampleAt stream k = getD stream (2 * k) 0 + 256 * getD stream (2 * k + 1) 0
 
 -- some sample has voltage class 3
 abbrev pub overvolted : List ℕ → Bool

@@ -1,0 +1,4 @@
+pub mod Turns
+pub mod Doors
+pub mod Least
+pub mod Laws

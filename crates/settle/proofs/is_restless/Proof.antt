@@ -1,0 +1,13 @@
+use Rattle.laws.proofs.Rules.{cases}
+use Rattle.settle.specs.Settle.{isRestless}
+use Rattle.settle.proofs.is_restless.Statement.{statement}
+use Rattle.settle.proofs.is_restless.Tie as tie
+
+pub is-restless-spec : {M : Type 1} → statement M
+unfolding isRestless
+is-restless-spec =
+    tie.close
+    (tie.spec
+    (λ c. search cases)
+    (λ c. search cases)
+    (λ c. search cases))

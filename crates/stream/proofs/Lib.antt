@@ -1,0 +1,3 @@
+pub mod Turns
+pub mod Doors
+pub mod Laws

@@ -1,0 +1,60 @@
+-- `stream::run` meets its contract: number 0 tells what the walk asks for, and another number is all that is given.
+-- Assumes nothing.
+use borrow.Author.Needs.{needs}
+use native.Mathlib.Omega.{arith}
+use Rattle.device.proofs.Laws.{fresh-sound}
+use Rattle.stream.proofs.Doors.{accepts, finishes, refuses}
+use Rattle.stream.proofs.run.Statement.{statement}
+use Rattle.stream.proofs.run.Tie as tie
+
+cast-fresh : tie.Need-cast-fresh
+cast-fresh c = let f = accepts _ _ _ _ _ _ _ (c .before .run-number .ensures) (c .if1 .taken) in omega (arith, f .strapped)
+
+times-of-requires : tie.Need-times-of-requires
+times-of-requires c κs = accepts _ _ _ _ _ _ _ (c .before .run-number .ensures) (c .if1 .taken) .timely
+
+walk-requires : tie.Need-walk-requires
+walk-requires c κs =
+    let p = c .before .before in
+    let i = p .before .before in
+    let f = accepts _ _ _ _ _ _ _ (i .before .run-number .ensures) (i .if1 .taken) in (
+      rw (p .fresh .ensures, p .before .times-of .ensures) (fresh-sound _ _ (omega (arith, f .strapped)) (f .timely)),
+      (f .whole, f .roomy),
+    )
+
+cast-t25 : tie.Need-cast-t25
+cast-t25 c =
+    let i = c .before .before .before .before .before .before .before .before .before .before in
+    let f = accepts _ _ _ _ _ _ _ (i .before .run-number .ensures) (i .if1 .taken) in
+    omega (arith, f .short)
+
+returns : tie.Need-returns
+returns c =
+    let t = c .before .before .before .before .before .before .before in
+    let p = t .before .before .before in
+    let i = p .before .before in
+    let w = rw (p .fresh .ensures, p .before .times-of .ensures) at (t .walk .ensures) in
+    rw (c .before .status .ensures) (finishes _ _ _ _ _ _ _ (i .before .run-number .ensures) (i .if1 .taken) (w .0) (w .1))
+
+returns-2 : tie.Need-returns-2
+returns-2 c = refuses _ _ _ _ _ _ _ (c .before .run-number .ensures) (c .if1 .left)
+
+pub run-spec : {M : Type 1} → statement M
+run-spec =
+    tie.close
+    (tie.spec
+    (λ c κs. search needs)
+    cast-fresh
+    times-of-requires
+    (λ c κs. search needs)
+    walk-requires
+    cast-t25
+    (λ c κs. search needs)
+    (λ c. search needs)
+    (λ c. search needs)
+    (λ c. search needs)
+    (λ c. search needs)
+    returns
+    (λ c. search needs)
+    (λ c. search needs)
+    returns-2)
