@@ -1,11 +1,17 @@
 // The C face: each function hands its arguments to the room that has the work. What C must promise is said in pod.h.
+use clock::Stepped;
 use device::Powered;
 use record::Device;
+use settle::Settled;
 use sheet::Sheet;
+use stream::Report;
 use view::Part;
 ghost use mathlib.Core.Path.{_≡_};
 ghost use Rattle.device.specs.Power.{poweredUp, timesSet};
 ghost use Rattle.device.specs.Told.{statusTold, marksTold};
+ghost use Rattle.clock.specs.Step.{steppedOf, storedOf};
+ghost use Rattle.settle.specs.Settle.{settledOf, imageSettled};
+ghost use Rattle.stream.specs.Run.{ran, ranOf};
 ghost use Rattle.sheet.specs.Sheet.{readOf, numbersOf, written, writeOf};
 ghost use Rattle.view.specs.Shown.{partShown};
 
@@ -21,6 +27,38 @@ pub extern "C" fn pod_set_times(device: Device, program: u32, slice: u32, pause:
     ensures { λ r. ⌜ r ≡ timesSet device program slice pause ⌝ }
 {
     device::set_times(device, program, slice, pause)
+}
+
+#[no_mangle]
+pub extern "C" fn pod_step(device: Device, image: &mut [u8], sample: u16) -> Stepped
+    ensures { λ r. ⌜ (r ≡ steppedOf device (now (image .entry)) sample)
+        × (now (image .exit) ≡ storedOf device (now (image .entry)) sample) ⌝ }
+{
+    clock::step(device, image, sample)
+}
+
+#[no_mangle]
+pub extern "C" fn pod_settle(device: Device, image: &mut [u8], sample: u16, limit: u32) -> Settled
+    ensures { λ r. ⌜ (r ≡ settledOf device (now (image .entry)) sample limit)
+        × (now (image .exit) ≡ imageSettled device (now (image .entry)) sample limit) ⌝ }
+{
+    settle::settle(device, image, sample, limit)
+}
+
+#[no_mangle]
+pub extern "C" fn pod_run(
+    image: &mut [u8],
+    stream: &[u8],
+    answers: &mut [u8],
+    straps: u32,
+    program: u32,
+    slice: u32,
+    pause: u32,
+) -> Report
+    ensures { λ r. ⌜ ran r (now (image .exit)) (now (answers .exit))
+        ≡ ranOf (now (image .entry)) (now (stream .entry)) (now (answers .entry)) straps program slice pause ⌝ }
+{
+    stream::run(image, stream, answers, straps, program, slice, pause)
 }
 
 #[no_mangle]
