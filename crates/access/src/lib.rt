@@ -1,9 +1,12 @@
 // What stands behind an address: the value that a read finds there, and what a byte written there does.
-use command::{Verdict, write};
+use command::Verdict;
+use command::write;
 use device::status;
-use part::{Part, Register, look_up};
-use record::{Controller, Device};
-
+use part::Part;
+use part::Register;
+use part::look_up;
+use record::Controller;
+use record::Device;
 ghost use mathlib.Core.Path.{_≡_};
 ghost use Prim.Native.Nat.{_<_};
 ghost use lib.ListN.{getD};

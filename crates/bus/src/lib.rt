@@ -1,6 +1,5 @@
 // The frames: what each clock of the bus takes, asks and drives.
 use record::Frame;
-
 ghost use mathlib.Core.Path.{_≡_};
 ghost use Prim.Native.Nat.{_<_};
 ghost use Rattle.record.specs.Record.{frame};

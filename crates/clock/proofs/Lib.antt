@@ -1,4 +1,3 @@
-pub mod Parts
 pub mod Doors
 pub mod Kept
 pub mod Broken

@@ -1,13 +1,20 @@
 // One clock, in order: reset, or the controller with its effect on the image and then the bus; and the step by value.
-use access::{Reached, reach, value};
-use bus::{Asked, ask, clock_frame, drive};
+use access::Reached;
+use access::reach;
+use access::value;
+use bus::Asked;
+use bus::ask;
+use bus::clock_frame;
+use bus::drive;
 use command::Verdict;
 use device::sound;
-use effect::{Effect, apply};
-use operation::{count, reset};
+use effect::Effect;
+use effect::apply;
+use operation::count;
+use operation::reset;
 use part::Part;
-use record::{Device, Frame};
-
+use record::Device;
+use record::Frame;
 ghost use mathlib.Core.Path.{_≡_};
 ghost use mathlib.Core.Bool.{true};
 ghost use lib.ListN.{length};

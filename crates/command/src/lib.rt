@@ -1,10 +1,14 @@
 // What the part does with a byte that is written to the array: the command table, setups and the judgement of a
 // permission. It knows nothing of frames.
-use device::{Condition, condition_of};
-use part::{Part, block_of};
-use record::{Controller, Operation};
-use units::{Clocks, Times, in_clocks};
-
+use device::Condition;
+use device::condition_of;
+use part::Part;
+use part::block_of;
+use record::Controller;
+use record::Operation;
+use units::Clocks;
+use units::Times;
+use units::in_clocks;
 ghost use mathlib.Core.Path.{_≡_};
 ghost use Prim.Native.Nat.{_<_};
 ghost use Rattle.command.specs.Commands.{rowOf, columnOf, actionOf, acted};
@@ -326,14 +330,7 @@ pub struct Written {
 }
 
 // A byte written to the array: a command, or the end of a setup.
-pub fn write(
-    c: Controller,
-    times: Times,
-    sample: u16,
-    lock: u8,
-    address: u32,
-    byte: u8,
-) -> Written
+pub fn write(c: Controller, times: Times, sample: u16, lock: u8, address: u32, byte: u8) -> Written
     ensures { λ r. ⌜ r ≡ writtenOf c times sample lock address byte ⌝ }
 {
     if c.setup == 0 {

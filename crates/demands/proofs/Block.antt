@@ -101,10 +101,10 @@ contents-other b k e d hb hk n l i =
     let y = contents-length b d l hb in
     ext-getD 0 (contents b (applied e d)) (contents b d) (x ∙ sym y)
     (λ j h.
-      let g = rw x at h in
-      contents-at b (applied e d) j g
-      ∙ applied-at k e d (b * 65536 + j) i w (λ p q. n (apart b k j p q g))
-      ∙ sym (contents-at b d j g))
+    let g = rw x at h in
+    contents-at b (applied e d) j g
+    ∙ applied-at k e d (b * 65536 + j) i w (λ p q. n (apart b k j p q g))
+    ∙ sym (contents-at b d j g))
 
 -- what is left of an operation, done to the contents of its block at once
 unfoldable pub restIn : Operation → List ℕ → List ℕ

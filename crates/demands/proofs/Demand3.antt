@@ -28,7 +28,7 @@ use Rattle.demands.proofs.Counting.{Like, absent-rest}
 use Rattle.demands.proofs.Turns.{Turn, goes, ends, starts, cuts, turn, Good, refuses, steps}
 
 -- a good world stays good
-good-after : (e : Event) (w : World) → Good w → Good (after e w)
+pub good-after : (e : Event) (w : World) → Good w → Good (after e w)
 good-after (clock sample) w g = pick (ask (eqb (voltage sample) 3))
   where
     pick : Answer (eqb (voltage sample) 3) → Good (after (clock sample) w)

@@ -4,4 +4,6 @@ pub mod Counting
 pub mod Moving
 pub mod Turns
 pub mod Demand3
+pub mod Demand3Run
 pub mod Demand2
+pub mod Demand1

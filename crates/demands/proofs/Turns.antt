@@ -108,7 +108,7 @@ combined b sample locks c n d h e l z (counts-on t a k r m) (stays x y q) =
 combined b sample locks c n d h e l z (counts-on t a k r m) (begins s x y f q g) =
     let u = sym a ∙ x in
     let v =
-        ap (contents b) (sym (absent-rest _ (applied (countedOf c .effect) d) x)) ∙ r ∙ ap (contents b) (absent-rest _ d u) in
+    ap (contents b) (sym (absent-rest _ (applied (countedOf c .effect) d) x)) ∙ r ∙ ap (contents b) (absent-rest _ d u) in
     starts u y
     (contents-rest b (opOf b n) (applied (countedOf c .effect) d) h (f .sound) (f .block) z
     ∙ ap (restIn (opOf b n)) v

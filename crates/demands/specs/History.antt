@@ -3,7 +3,7 @@
 use Prim.Native.Nat.{ℕ, _*_, _%_, _<_}
 use mathlib.Core.Path.{_≡_}
 use mathlib.Core.Bool.{Bool, true, false, cond, not}
-use mathlib.Core.List.{List, [], _∷_, _++_}
+use mathlib.Core.List.{List, [], _∷_, _++_, map}
 use lib.Bits.{bitAnd}
 use lib.Dec.{eqb, ltb}
 use lib.ListN.{length, getD, set, take, drop, replicate}
@@ -16,6 +16,7 @@ use Rattle.device.specs.Power.{poweredUp, timesSet}
 use Rattle.operation.specs.Marks.{marked}
 use Rattle.clock.specs.Step.{steppedOf, storedOf}
 use Rattle.clock.specs.Fold.{World, world}
+use Rattle.stream.specs.Run.{samples, ranOf}
 
 -- a history is any list of clocks and changes of times
 pub data Event : Type 0 where
@@ -158,3 +159,14 @@ Demand3Allowed =
     → length image ≡ 1048576
     → block < 16
     → allAllowed block (operations block history (powered straps program slice pause image)) ≡ true
+
+-- the same of a run, as the host sees it: its samples are a history of clocks from power-up
+unfoldable pub Demand3Run : Type 0
+Demand3Run =
+    (image stream answers : List ℕ) (straps program slice pause : ℕ) (block : ℕ)
+    → block < 16
+    → ranOf image stream answers straps program slice pause .report .number ≡ 0
+    → marked (ranOf image stream answers straps program slice pause .report .marks) block ≡ false
+    → isThere block (ending (map clock (samples stream)) (powered straps program slice pause image)) ≡ false
+    → contents block (ranOf image stream answers straps program slice pause .image)
+    ≡ done (operations block (map clock (samples stream)) (powered straps program slice pause image)) (contents block image)

@@ -1,3 +1,4 @@
-pub mod Examples
+pub mod Demand1
 pub mod Demand2
+pub mod Examples
 pub mod History

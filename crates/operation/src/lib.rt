@@ -1,10 +1,12 @@
 // One clock of an operation, and reset: what time does to the controller. No pin, voltage or lock register is to be
 // found among the arguments.
 use effect::Effect;
-use part::{block_of, Part};
-use record::{Controller, Operation};
-use units::{in_clocks, Clocks};
-
+use part::Part;
+use part::block_of;
+use record::Controller;
+use record::Operation;
+use units::Clocks;
+use units::in_clocks;
 ghost use mathlib.Core.Path.{_≡_};
 ghost use mathlib.Core.Bool.{true, false};
 ghost use Prim.Native.Nat.{_<_};

@@ -18,10 +18,11 @@ abbrev μ-loop : tie.MeasureT-loop
 loop-again : tie.Need-loop-again Inv-loop μ-loop
 loop-again c =
     let w = c .before in
-    let a = w .before .args in
-    (omega arith,
-    simp length-set (omega arith),
-    rw (w .loop .inv .2) (filled-more (a .image .now) (a .start) (w .loop .i) (a .value) (omega arith)))
+    let a = w .before .args in (
+      omega arith,
+      simp length-set (omega arith),
+      rw (w .loop .inv .2) (filled-more (a .image .now) (a .start) (w .loop .i) (a .value) (omega arith)),
+    )
 
 returns : tie.Need-returns Inv-loop μ-loop
 returns c =

@@ -19,14 +19,15 @@ count-spec =
     (λ c κs. let w = c .before .before .before .before in let f : isStill (active (w .before .args .c)) ≡ false = (cc) in rw (w .active-of .ensures) (active-fits _ (w .before .pre) (moving _ f)))
     (λ c κs. search needs)
     (λ c.
-      let t = c .before .before .before in
-      let w = t .before .before .before in
-      let f = rw (w .active-of .ensures) at (t .before .before .is-still .ensures) in
-      search
-      (cases,
+    let t = c .before .before .before in
+    let w = t .before .before .before in
+    let f = rw (w .active-of .ensures) at (t .before .before .is-still .ensures) in
+    search (
+      cases,
       c .replace .ensures,
       c .before .marks-after .ensures,
       t .tick .ensures,
       w .active-of .ensures,
       ← f,
-      t .before .if1 .left)))
+      t .before .if1 .left,
+    )))

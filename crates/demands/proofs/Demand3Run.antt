@@ -1,0 +1,107 @@
+-- Demand 3 of a run's stream: a run that is done is the history of its samples. Assumes nothing.
+use Prim.Native.Nat.{ℕ, _/_, _≤_, _<_}
+use mathlib.Core.Path.{_≡_, _∙_, sym, refl, ap}
+use mathlib.Core.Bool.{Bool, true, false, cond}
+use mathlib.Core.List.{List, [], _∷_, map}
+use lib.Dec.{eqb, ltb}
+use lib.ListN.{length}
+use borrow.Author.Tests.{eqb-true, eqb-false, ltb-false}
+use Rattle.laws.proofs.Rules.{Answer, yes, no, ask, clash}
+use Rattle.units.specs.Units.{times, timesFit}
+use Rattle.record.specs.declared.Device.{Device}
+use Rattle.record.specs.Sample.{voltage}
+use Rattle.part.specs.Fresh.{freshOf}
+use Rattle.device.specs.Power.{poweredUp}
+use Rattle.device.proofs.Laws.{powered-sound, power-0}
+use Rattle.operation.specs.Marks.{marked}
+use Rattle.clock.specs.Fold.{World, world, onward, through}
+use Rattle.stream.specs.Run.{samples, overvolted, misshapen, runNumber, ranOf}
+use Rattle.demands.specs.History.{clock, after, ending, powered, isThere, operations, contents, done, Demand3, Demand3Run}
+use Rattle.demands.proofs.Turns.{Good, steps}
+use Rattle.demands.proofs.Demand3.{good-after, demand-3}
+
+-- a sample that is stepped goes on as the fold does
+goes-on : (w : World) (s : ℕ) → Good w → eqb (voltage s) 3 ≡ false → after (clock s) w ≡ onward w s
+unfolding onward
+goes-on w s g v = steps w s g v
+
+calm : (s : ℕ) (ss : List ℕ) → overvolted (s ∷ ss) ≡ false → (eqb (voltage s) 3 ≡ false) × (overvolted ss ≡ false)
+calm s ss e = pick (ask (eqb (voltage s) 3))
+  where
+    pick : Answer (eqb (voltage s) 3) → (eqb (voltage s) 3 ≡ false) × (overvolted ss ≡ false)
+    pick (yes v) = clash (sym (rw v at e))
+    pick (no v) = (v, rw v at e)
+
+as-history : (ss : List ℕ) (w : World) → Good w → overvolted ss ≡ false → ending (map clock ss) w ≡ through ss w
+as-history [] w g e = refl
+as-history (s ∷ ss) w g e =
+    let c = calm s ss e in
+    as-history ss (after (clock s) w) (good-after (clock s) w g) (c .1) ∙ ap (through ss) (goes-on w s g (c .0))
+
+-- what a run that is done has found
+record Done (image stream : List ℕ) (straps program slice pause : ℕ) : Type 0 where
+  size : length image ≡ 1048576
+  straps-fit : straps ≤ 15
+  times-fit : timesFit (times program slice pause) ≡ true
+  volts : overvolted (samples stream) ≡ false
+
+found : (image stream answers : List ℕ) (straps program slice pause : ℕ) → runNumber image stream answers straps program slice pause ≡ 0 → Done image stream straps program slice pause
+unfolding runNumber
+found image stream answers straps program slice pause n = pick (ask (eqb (length image) 1048576)) (ask (ltb 15 straps)) (ask (timesFit (times program slice pause))) (ask (misshapen stream)) (ask (ltb (length answers) (length stream / 2))) (ask (overvolted (samples stream)))
+  where
+    pick : Answer (eqb (length image) 1048576)
+        → Answer (ltb 15 straps)
+        → Answer (timesFit (times program slice pause))
+        → Answer (misshapen stream)
+        → Answer (ltb (length answers) (length stream / 2))
+        → Answer (overvolted (samples stream))
+        → Done image stream straps program slice pause
+    pick (no a) b c d e f = absurd (eqb-false 2 0 refl (rw a at n))
+    pick (yes a) (yes b) c d e f = absurd (eqb-false 3 0 refl (rw (a, b) at n))
+    pick (yes a) (no b) (no c) d e f = absurd (eqb-false 4 0 refl (rw (a, b, c) at n))
+    pick (yes a) (no b) (yes c) (yes d) e f = absurd (eqb-false 5 0 refl (rw (a, b, c, d) at n))
+    pick (yes a) (no b) (yes c) (no d) (yes e) f = absurd (eqb-false 6 0 refl (rw (a, b, c, d, e) at n))
+    pick (yes a) (no b) (yes c) (no d) (no e) (yes f) = absurd (eqb-false 7 0 refl (rw (a, b, c, d, e, f) at n))
+    pick (yes a) (no b) (yes c) (no d) (no e) (no f) =
+        record { size = eqb-true (length image) 1048576 a; straps-fit = ltb-false 15 straps b; times-fit = c; volts = f }
+
+number-of : (image stream answers : List ℕ) (straps program slice pause : ℕ)
+    → ranOf image stream answers straps program slice pause .report .number ≡ runNumber image stream answers straps program slice pause
+unfolding ranOf
+number-of image stream answers straps program slice pause = pick (ask (eqb (runNumber image stream answers straps program slice pause) 0))
+  where
+    pick : Answer (eqb (runNumber image stream answers straps program slice pause) 0) → ranOf image stream answers straps program slice pause .report .number ≡ runNumber image stream answers straps program slice pause
+    pick (yes e) = rw e (sym (eqb-true (runNumber image stream answers straps program slice pause) 0 e))
+    pick (no e) = rw e
+
+module _ (image stream answers : List ℕ) (straps program slice pause : ℕ) (n : ranOf image stream answers straps program slice pause .report .number ≡ 0) where
+  z : runNumber image stream answers straps program slice pause ≡ 0
+  z = sym (number-of image stream answers straps program slice pause) ∙ n
+
+  d : Done image stream straps program slice pause
+  d = found image stream answers straps program slice pause z
+
+  start : powered straps program slice pause image ≡ world (freshOf straps (times program slice pause)) image
+  start = ap (λ (p : _). world (p .device) image) (power-0 straps program slice pause (d .straps-fit) (d .times-fit))
+
+  end : ending (map clock (samples stream)) (powered straps program slice pause image) ≡ through (samples stream) (world (freshOf straps (times program slice pause)) image)
+  end =
+      as-history (samples stream) (powered straps program slice pause image) (record { sound = powered-sound straps program slice pause; size = d .size }) (d .volts)
+      ∙ ap (through (samples stream)) start
+
+  run-image : ranOf image stream answers straps program slice pause .image ≡ ending (map clock (samples stream)) (powered straps program slice pause image) .image
+  unfolding ranOf
+  run-image = rw z (ap (λ (w : World). w .image) (sym end))
+
+  run-marks : ranOf image stream answers straps program slice pause .report .marks
+      ≡ ending (map clock (samples stream)) (powered straps program slice pause image) .device .controller .marks
+  unfolding ranOf
+  run-marks = rw z (ap (λ (w : World). w .device .controller .marks) (sym end))
+
+pub demand-3-run : Demand3Run
+unfolding Demand3Run Demand3
+demand-3-run image stream answers straps program slice pause block h n m t =
+    ap (contents block) (run-image image stream answers straps program slice pause n)
+    ∙ demand-3 straps program slice pause image (map clock (samples stream)) block (d image stream answers straps program slice pause n .size) h
+    (ap (λ (k : ℕ). marked k block) (sym (run-marks image stream answers straps program slice pause n)) ∙ m)
+    t
