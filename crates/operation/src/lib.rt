@@ -17,7 +17,7 @@ ghost use Rattle.operation.specs.Clock.{active, isStill, sliceAt, paused
 ghost use Rattle.operation.specs.Reset.{markedBy, resetOf};
 
 // The marks with that of a block set.
-pub fn mark(marks: u16, block: u32) -> u16
+fn mark(marks: u16, block: u32) -> u16
     requires { ⌜ block < 16 ⌝ }
     ensures { λ r. ⌜ r ≡ marking marks block ⌝ }
 {
@@ -25,7 +25,7 @@ pub fn mark(marks: u16, block: u32) -> u16
 }
 
 // The marks with that of a block removed.
-pub fn unmark(marks: u16, block: u32) -> u16
+fn unmark(marks: u16, block: u32) -> u16
     requires { ⌜ block < 16 ⌝ }
     ensures { λ r. ⌜ r ≡ clearing marks block ⌝ }
 {
