@@ -87,6 +87,7 @@ module _ (sample n : ℕ) (w : World) where
       × (settling sample n 0 w .world ≡ repeated sample (settling sample n 0 w .count) w)
   ready-least e = let l = least sample n w in (sym (l .told) ∙ e, l .waited, l .reached)
 
+  -- bit 7 is 0 after every number of samples, N included
   pub never : settling sample n 0 w .ready ≡ false
       → (j : ℕ)
       → j ≤ n
@@ -102,7 +103,7 @@ module _ (sample n : ℕ) (w : World) where
             rw k at (sym (l .told) ∙ e)
       ]
 
-  -- or all n samples are done, and bit 7 is 0 after each number of them
+  -- all n samples are done then
   pub exhausted-all : settling sample n 0 w .ready ≡ false
       → (settling sample n 0 w .count ≡ n)
       × ((j : ℕ) → j ≤ n → isReady (repeated sample j w .device) ≡ false)
@@ -111,6 +112,7 @@ module _ (sample n : ℕ) (w : World) where
       let l = least sample n w in
       (l .exhausted e, never e, rw (l .exhausted e) at (l .reached))
 
+  -- never more than are allowed
   pub count-most : settling sample n 0 w .count ≤ n
   count-most = least sample n w .allowed
 

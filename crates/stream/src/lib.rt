@@ -41,9 +41,9 @@ fn sample_at(stream: &[u8], k: usize) -> u16
 fn is_overvolted(stream: &[u8]) -> bool
     ensures { λ r. ⌜ r ≡ overvolted (samples (now (stream .entry))) ⌝ }
 {
-    let n = stream.len() / 2;
+    let count = stream.len() / 2;
     let mut k: usize = 0;
-    while k < n {
+    while k < count {
         if sample_at(stream, k) / 512 % 4 == 3 {
             return true;
         }

@@ -1,3 +1,4 @@
+-- `settle::is_ready` meets its contract, by what the status register is. Assumes nothing.
 use borrow.Author.Needs.{needs}
 use Rattle.settle.specs.Settle.{isReady}
 use Rattle.settle.proofs.is_ready.Statement.{statement}

@@ -1,3 +1,4 @@
+-- `settle::is_restless` meets its contract: each test on the way to a return is the one of the definition. Assumes nothing.
 use Rattle.laws.proofs.Rules.{cases}
 use Rattle.settle.specs.Settle.{isRestless}
 use Rattle.settle.proofs.is_restless.Statement.{statement}

@@ -10,10 +10,10 @@ use Rattle.stream.proofs.is_overvolted.Statement.{statement}
 use Rattle.stream.proofs.is_overvolted.Tie as tie
 
 abbrev Inv-loop : tie.InvT-loop
-Inv-loop stream n k₀ k = (k ≤ n) × (overvolted (samples (drop (2 * k) stream)) ≡ overvolted (samples stream))
+Inv-loop stream count k₀ k = (k ≤ count) × (overvolted (samples (drop (2 * k) stream)) ≡ overvolted (samples stream))
 
 abbrev μ-loop : tie.MeasureT-loop
-μ-loop stream n k₀ k = n - k
+μ-loop stream count k₀ k = count - k
 
 loop-holds : tie.Need-loop-holds Inv-loop μ-loop
 loop-holds c = (omega arith, refl)
