@@ -20,7 +20,7 @@ use Rattle.settle.specs.Settle.{settling, isRestless, settleNumber, settledOf, 
 use Rattle.settle.proofs.Least.{Least, least}
 use Rattle.stream.specs.Run.{samples, overvolted, misshapen, runNumber, ranOf}
 use Rattle.sheet.specs.Sheet.{ofLayout, strapsIn, timesIn, readOf, writeOf}
-use Rattle.demands.specs.Demand1.{Call, powerUp, setTimes, step, settle, run, readSheet, writeSheet, refusals, first, Outcome, outcome, asLent, Numbers, Refused, Ten, Coincide}
+use Rattle.demands.specs.Demand1.{Call, powerUp, setTimes, step, settle, run, readSheet, writeSheet, stepInPlace, viewBlock, tellStatus, tellMarks, refusals, first, Outcome, outcome, asLent, Numbers, Refused, Ten, Coincide}
 
 pub numbers : Numbers
 unfolding Numbers poweredUp refusal timesSet steppedOf stepNumber settledOf settleNumber ranOf runNumber readOf writeOf
@@ -87,6 +87,16 @@ numbers (writeSheet buffer straps program slice pause) = pick (ask (ltb 15 strap
     pick (no a) (no b) c = rw (a, b)
     pick (no a) (yes b) (yes c) = rw (a, b, c)
     pick (no a) (yes b) (no c) = rw (a, b, c)
+numbers (stepInPlace d image sample) = pick (ask (soundOf d)) (ask (eqb (length image) 1048576)) (ask (eqb (voltage sample) 3))
+  where
+    pick : Answer (soundOf d) → Answer (eqb (length image) 1048576) → Answer (eqb (voltage sample) 3) → outcome (stepInPlace d image sample) .number ≡ first (refusals (stepInPlace d image sample))
+    pick (no a) b c = rw a
+    pick (yes a) (no b) c = rw (a, b)
+    pick (yes a) (yes b) (yes c) = rw (a, b, c)
+    pick (yes a) (yes b) (no c) = rw (a, b, c)
+numbers (viewBlock d image page block) = refl
+numbers (tellStatus d) = refl
+numbers (tellMarks d) = refl
 
 below-ten : 10 < 10 → ⊥
 below-ten h = omega arith
@@ -156,6 +166,16 @@ refused (writeSheet buffer straps program slice pause) h l = pick (ask (ltb 15 s
     pick (no a) (no b) c h l = rw (a, b)
     pick (no a) (yes b) (yes c) h l = rw (a, b, c)
     pick (no a) (yes b) (no c) h l = absurd (not-suc-le-zero (rw (a, b, c) at h))
+refused (stepInPlace d image sample) h l = pick (ask (soundOf d)) (ask (eqb (length image) 1048576)) (ask (eqb (voltage sample) 3)) h l
+  where
+    pick : Answer (soundOf d) → Answer (eqb (length image) 1048576) → Answer (eqb (voltage sample) 3) → 0 < outcome (stepInPlace d image sample) .number → outcome (stepInPlace d image sample) .number < 10 → outcome (stepInPlace d image sample) ≡ asLent (stepInPlace d image sample) (outcome (stepInPlace d image sample) .number)
+    pick (no a) b c h l = rw a
+    pick (yes a) (no b) c h l = rw (a, b)
+    pick (yes a) (yes b) (yes c) h l = rw (a, b, c)
+    pick (yes a) (yes b) (no c) h l = absurd (not-suc-le-zero (rw (a, b, c) at h))
+refused (viewBlock d image page block) h l = absurd (not-suc-le-zero h)
+refused (tellStatus d) h l = absurd (not-suc-le-zero h)
+refused (tellMarks d) h l = absurd (not-suc-le-zero h)
 
 pub ten : Ten
 unfolding Ten settledOf imageSettled settleNumber

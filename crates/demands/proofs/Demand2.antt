@@ -3,7 +3,6 @@ use Prim.Native.Nat.{ℕ, _+_, _*_, _/_, _%_, _≤_, _<_}
 use mathlib.Core.Path.{_≡_, _∙_, sym, refl, ap}
 use mathlib.Core.Bool.{Bool, true, false, cond, _&&_}
 use mathlib.Core.List.{List, [], _∷_, _++_, map}
-use mathlib.Core.Logic.{_⊎_, inl, inr}
 use native.Mathlib.Omega.{arith}
 use lib.Bits.{bitAnd, bitOr, and-le-r}
 use lib.Dec.{eqb, ltb}
@@ -32,40 +31,53 @@ use Rattle.access.specs.Read.{isArray, valueOf}
 use Rattle.clock.specs.Clock.{isReset, resetDevice, advancedOf, imageAfter}
 use Rattle.clock.proofs.Broken as broken
 use Rattle.demands.specs.History.{contents}
-use Rattle.demands.specs.Demand2.{raised, allHigh, BrokenOffGivesNothing, AnswerByte, StatusBit0, RegistersAnswer, ImageChanges, FreshAsReset}
+use Rattle.demands.specs.Demand2.{raised, allHigh, drives, BrokenOffGivesNothing, AnswerByte, StatusBit0, RegistersAnswer, ImageChanges, FreshAsReset}
 use Rattle.demands.proofs.Block.{contents-other}
 
--- what a frame drives is nothing, or has bit 4 set
-driven : (f : Frame) → (drivenOf f ≡ 0) ⊎ (16 ≤ drivenOf f)
+-- what a frame drives: nothing, or bit 4 and a nibble
+driven : (f : Frame) → (drives f ≡ false → drivenOf f ≡ 0) × (drives f ≡ true → 16 ≤ drivenOf f)
 unfolding drivenOf
-driven f = pick (ask (isRead f)) (ask (isWrite f)) (ask (ltb (f .clock) 13)) (ask (ltb (f .clock) 15)) (ask (eqb (f .clock) 15)) (ask (eqb (f .clock) 16)) (ask (eqb (f .clock) 17))
+driven f = (low (ask (isRead f)) (ask (isWrite f)) (ask (ltb (f .clock) 13)) (ask (eqb (f .clock) 15)) (ask (eqb (f .clock) 16)), some (ask (isRead f)) (ask (isWrite f)) (ask (ltb (f .clock) 13)) (ask (ltb (f .clock) 15)) (ask (eqb (f .clock) 15)) (ask (eqb (f .clock) 16)) (ask (eqb (f .clock) 17)))
   where
-    pick : Answer (isRead f)
+    low : Answer (isRead f) → Answer (isWrite f) → Answer (ltb (f .clock) 13) → Answer (eqb (f .clock) 15) → Answer (eqb (f .clock) 16) → drives f ≡ false → drivenOf f ≡ 0
+    low (yes r) w (yes a) c d h = rw (r, a)
+    low (yes r) w (no a) c d h = clash (sym (rw (r, a) at h))
+    low (no r) (no w) a c d h = rw (r, w)
+    low (no r) (yes w) a (yes c) d h = clash (sym (rw (r, w, c) at h))
+    low (no r) (yes w) a (no c) (yes d) h = clash (sym (rw (r, w, c, d) at h))
+    low (no r) (yes w) a (no c) (no d) h = rw (r, w, c, d)
+
+    some : Answer (isRead f)
         → Answer (isWrite f)
         → Answer (ltb (f .clock) 13)
         → Answer (ltb (f .clock) 15)
         → Answer (eqb (f .clock) 15)
         → Answer (eqb (f .clock) 16)
         → Answer (eqb (f .clock) 17)
-        → (drivenOf f ≡ 0) ⊎ (16 ≤ drivenOf f)
-    pick (yes r) w (yes a) b c d e = inl (rw (r, a))
-    pick (yes r) w (no a) (yes b) c d e = inr (rw (r, a, b) (omega arith))
-    pick (yes r) w (no a) (no b) (yes c) d e = inr (rw (r, a, b, c) (omega arith))
-    pick (yes r) w (no a) (no b) (no c) (yes d) e = inr (rw (r, a, b, c, d) (omega arith))
-    pick (yes r) w (no a) (no b) (no c) (no d) (yes e) = inr (rw (r, a, b, c, d, e) (omega arith))
-    pick (yes r) w (no a) (no b) (no c) (no d) (no e) = inr (rw (r, a, b, c, d, e) (omega arith))
-    pick (no r) (yes w) a b (yes c) d e = inr (rw (r, w, c) (omega arith))
-    pick (no r) (yes w) a b (no c) (yes d) e = inr (rw (r, w, c, d) (omega arith))
-    pick (no r) (yes w) a b (no c) (no d) e = inl (rw (r, w, c, d))
-    pick (no r) (no w) a b c d e = inl (rw (r, w))
+        → drives f ≡ true
+        → 16 ≤ drivenOf f
+    some (yes r) w (yes a) b c d e h = clash (rw (r, a) at h)
+    some (yes r) w (no a) (yes b) c d e h = rw (r, a, b) (omega arith)
+    some (yes r) w (no a) (no b) (yes c) d e h = rw (r, a, b, c) (omega arith)
+    some (yes r) w (no a) (no b) (no c) (yes d) e h = rw (r, a, b, c, d) (omega arith)
+    some (yes r) w (no a) (no b) (no c) (no d) (yes e) h = rw (r, a, b, c, d, e) (omega arith)
+    some (yes r) w (no a) (no b) (no c) (no d) (no e) h = rw (r, a, b, c, d, e) (omega arith)
+    some (no r) (no w) a b c d e h = clash (rw (r, w) at h)
+    some (no r) (yes w) a b (yes c) d e h = rw (r, w, c) (omega arith)
+    some (no r) (yes w) a b (no c) (yes d) e h = rw (r, w, c, d) (omega arith)
+    some (no r) (yes w) a b (no c) (no d) e h = clash (rw (r, w, c, d) at h)
 
 pub answer-byte : AnswerByte
-unfolding AnswerByte advancedOf
-answer-byte d image sample = pick (ask (isReset sample))
+unfolding AnswerByte advancedOf resetDevice
+answer-byte d image sample = (none (ask (isReset sample)), some (ask (isReset sample)))
   where
-    pick : Answer (isReset sample) → (advancedOf d image sample .answer ≡ 0) ⊎ (16 ≤ advancedOf d image sample .answer)
-    pick (yes r) = inl (rw r)
-    pick (no r) = rw r (driven _)
+    none : Answer (isReset sample) → drives (advancedOf d image sample .device .frame) ≡ false → advancedOf d image sample .answer ≡ 0
+    none (yes r) h = rw r
+    none (no r) h = rw r (driven _ .0 (rw r at h))
+
+    some : Answer (isReset sample) → drives (advancedOf d image sample .device .frame) ≡ true → 16 ≤ advancedOf d image sample .answer
+    some (yes r) h = clash (rw r at h)
+    some (no r) h = rw r (driven _ .1 (rw r at h))
 
 -- error bits within 3Ah, put to the bits of a condition, leave bit 0 clear: a computed test of every byte
 clear : ℕ → ℕ → Bool

@@ -1,4 +1,5 @@
--- Demand 1: one table of the numbered calls and their refusals, what each call gives, and what a refusal leaves.
+-- Demand 1: one table of the calls and their refusals, what each call gives, and what a refusal leaves. The block view,
+-- status and marks give no number: it is 0 there.
 -- Assumes nothing.
 use Prim.Native.Nat.{ℕ, _/_, _<_}
 use mathlib.Core.Path.{_≡_}
@@ -11,10 +12,13 @@ use Rattle.record.specs.declared.Device.{Device}
 use Rattle.record.specs.Sample.{voltage}
 use Rattle.device.specs.Sound.{soundOf}
 use Rattle.device.specs.Power.{refusal, poweredUp, timesSet}
+use Rattle.device.specs.Told.{statusTold, marksTold}
 use Rattle.clock.specs.Step.{steppedOf, storedOf}
 use Rattle.clock.specs.Fold.{world, repeated}
 use Rattle.settle.specs.Settle.{settling, isRestless, settledOf, imageSettled}
 use Rattle.stream.specs.Run.{samples, overvolted, misshapen, ranOf}
+use Rattle.inplace.specs.Clocked.{clockedOf}
+use Rattle.view.specs.Shown.{shown, partShown}
 use Rattle.sheet.specs.Sheet.{ofLayout, strapsIn, timesIn, readOf, numbersOf, writeOf}
 
 -- the calls, with what is handed in
@@ -26,6 +30,10 @@ pub data Call : Type 0 where
   run : List ℕ → List ℕ → List ℕ → ℕ → ℕ → ℕ → ℕ → Call
   readSheet : List ℕ → Call
   writeSheet : List ℕ → ℕ → ℕ → ℕ → ℕ → Call
+  stepInPlace : Device → List ℕ → ℕ → Call
+  viewBlock : Device → List ℕ → List ℕ → ℕ → Call
+  tellStatus : Device → Call
+  tellMarks : Device → Call
 
 -- a refusal, and the condition under which document 01 has it given
 pub record Refusal : Type 0 where
@@ -71,6 +79,10 @@ refusals (readSheet bytes) =
     when 8 (not (ofLayout bytes)) ∷ when 3 (ltb 15 (strapsIn bytes)) ∷ when 4 (not (timesFit (timesIn bytes))) ∷ []
 refusals (writeSheet buffer straps program slice pause) =
     strapped straps ∷ mistimed program slice pause ∷ when 6 (ltb (length buffer) 13) ∷ []
+refusals (stepInPlace d image sample) = unsound d ∷ misfit image ∷ when 7 (eqb (voltage sample) 3) ∷ []
+refusals (viewBlock d image page block) = []
+refusals (tellStatus d) = []
+refusals (tellMarks d) = []
 
 -- the first whose condition holds, 0 where none does
 abbrev pub first : List Refusal → ℕ
@@ -110,6 +122,14 @@ outcome (readSheet bytes) =
     gives (r .number) (r .straps ∷ r .program ∷ r .slice ∷ r .pause ∷ []) spare []
 outcome (writeSheet buffer straps program slice pause) =
     let r = writeOf buffer straps program slice pause in gives (r .number) [] spare (r .buffer ∷ [])
+outcome (stepInPlace d image sample) =
+    let r = clockedOf (steppedOf d image sample) in
+    gives (r .number) (r .answer ∷ []) (steppedOf d image sample .device) (storedOf d image sample ∷ [])
+outcome (viewBlock d image page block) =
+    let r = partShown d image page block in
+    gives 0 (r .from ∷ r .start ∷ r .length ∷ []) spare (shown d image page block ∷ [])
+outcome (tellStatus d) = gives 0 (statusTold d ∷ []) spare []
+outcome (tellMarks d) = gives 0 (marksTold d ∷ []) spare []
 
 -- what a refusal leaves: memory as lent, the device handed in (power up: the spare one), every other number 0
 abbrev pub asLent : Call → ℕ → Outcome
@@ -121,6 +141,10 @@ asLent (run image stream answers straps program slice pause) number =
     gives number (0 ∷ 0 ∷ 0 ∷ []) spare (image ∷ answers ∷ [])
 asLent (readSheet bytes) number = gives number (0 ∷ 0 ∷ 0 ∷ 0 ∷ []) spare []
 asLent (writeSheet buffer straps program slice pause) number = gives number [] spare (buffer ∷ [])
+asLent (stepInPlace d image sample) number = gives number (0 ∷ []) d (image ∷ [])
+asLent (viewBlock d image page block) number = gives number (0 ∷ 0 ∷ 0 ∷ []) spare ([] ∷ [])
+asLent (tellStatus d) number = gives number (0 ∷ []) spare []
+asLent (tellMarks d) number = gives number (0 ∷ []) spare []
 
 -- the number is given exactly when the table says
 unfoldable pub Numbers : Type 0

@@ -4,13 +4,13 @@ use Prim.Native.Nat.{ℕ, _+_, _*_, _/_, _%_, _≤_, _<_}
 use mathlib.Core.Path.{_≡_}
 use mathlib.Core.Bool.{Bool, true, false, cond}
 use mathlib.Core.List.{List, [], _∷_, _++_, map}
-use mathlib.Core.Logic.{_⊎_}
-use lib.Dec.{eqb}
+use lib.Dec.{eqb, ltb}
 use lib.ListN.{length}
 use Rattle.units.specs.declared.Times.{Times}
+use Rattle.record.specs.declared.Frame.{Frame}
 use Rattle.record.specs.declared.Controller.{Controller}
 use Rattle.record.specs.declared.Device.{Device}
-use Rattle.record.specs.Record.{idle, blockOf}
+use Rattle.record.specs.Record.{idle, isRead, isWrite, blockOf}
 use Rattle.record.specs.Sample.{lines, frameLine}
 use Rattle.part.specs.Fresh.{freshOf}
 use Rattle.device.specs.Sound.{soundOf}
@@ -30,7 +30,7 @@ abbrev pub allHigh : List ℕ → Bool
 allHigh [] = true
 allHigh (s ∷ ss) = cond (eqb (frameLine s) 1) (allHigh ss) false
 
--- all but frame and answers: lock registers, and the controller with its setup, mode, error bits, operations and marks
+-- the same lock registers, and the same controller with its setup, mode, error bits, operations and marks
 abbrev pub sameCore : Device → Device → Type 0
 sameCore d e = (d .locks ≡ e .locks) × (d .controller ≡ e .controller)
 
@@ -49,11 +49,18 @@ BrokenOffGivesNothing =
     × (through (first ∷ (others ++ (last ∷ []))) (world d image) .image
     ≡ through (map raised (first ∷ (others ++ (last ∷ [])))) (world (withFrame d idle) image) .image)
 
--- the answer byte is 00h, or bit 4 is set
+-- the device drives on a read's clocks from 13 on (after its clock 19 the bus is idle), and on 15 and 16 of a write
+abbrev pub drives : Frame → Bool
+drives f =
+    cond (isRead f) (cond (ltb (f .clock) 13) false true)
+    (cond (isWrite f) (cond (eqb (f .clock) 15) true (eqb (f .clock) 16)) false)
+
+-- the answer byte is 00h where nothing is driven, and 10h or more where something is
 unfoldable pub AnswerByte : Type 0
 AnswerByte =
     (d : Device) (image : List ℕ) (sample : ℕ)
-    → (advancedOf d image sample .answer ≡ 0) ⊎ (16 ≤ advancedOf d image sample .answer)
+    → (drives (advancedOf d image sample .device .frame) ≡ false → advancedOf d image sample .answer ≡ 0)
+    × (drives (advancedOf d image sample .device .frame) ≡ true → 16 ≤ advancedOf d image sample .answer)
 
 -- status bit 0 is never set
 unfoldable pub StatusBit0 : Type 0

@@ -108,7 +108,7 @@ table =
     row (reads maker) (answers 19) (replicate 12 0 ++ (0x15 ∷ 0x15 ∷ 0x10 ∷ 0x10 ∷ 0x12 ∷ 0x1F ∷ 0 ∷ []))
     ∷ row (writes quiet target 0x40 ++ writes quiet target 0x0F) status (0x82 ∷ [])
     ∷ row (writes quiet target 0x40 ++ (writes quiet target 0x0F ++ idles quiet 40)) byte (0x5A ∷ [])
-    ∷ row (writes quiet target 0x40 ++ writes unpowered target 0x0F) status (0x88 ∷ [])
+    ∷ row (writes unpowered target 0x40 ++ writes unpowered target 0x0F) status (0x88 ∷ [])
     ∷ row (accepted ++ idles quiet 32) byte (0x5A ∷ [])
     ∷ row (accepted ++ idles quiet 33) byte (0x0A ∷ [])
     ∷ row (accepted ++ idles topLow 33) byte (0x0A ∷ [])
