@@ -3,21 +3,33 @@ use Prim.Native.Nat.{ℕ, _/_, _≤_, _<_}
 use mathlib.Core.Path.{_≡_, _∙_, sym, refl, ap}
 use mathlib.Core.Bool.{Bool, true, false, cond}
 use mathlib.Core.List.{List, [], _∷_, map}
+use native.Mathlib.Omega.{arith}
+use lib.Bits.{bitAnd, bitOr, and-le-r}
 use lib.Dec.{eqb, ltb}
 use lib.ListN.{length}
 use borrow.Author.Tests.{eqb-true, eqb-false, ltb-false}
 use Rattle.laws.proofs.Rules.{Answer, yes, no, ask, clash}
+use Rattle.laws.proofs.Table.{at}
 use Rattle.units.specs.Units.{times, timesFit}
+use Rattle.record.specs.declared.Controller.{Controller}
 use Rattle.record.specs.declared.Device.{Device}
+use Rattle.record.specs.Record.{isAbsent}
 use Rattle.record.specs.Sample.{voltage}
 use Rattle.part.specs.Fresh.{freshOf}
+use Rattle.device.specs.declared.Condition.{Condition}
+use Rattle.device.specs.declared.Condition.the-variants.{Ready, Running, Pausing, ProgramSuspended, EraseSuspended, ProgramInside}
+use Rattle.device.specs.Status.{conditionOf, conditionBits, statusOf}
+use Rattle.device.specs.Sound.{controllerFits}
 use Rattle.device.specs.Power.{poweredUp}
+use Rattle.device.proofs.Clauses.{clauses, parts}
+use Rattle.command.proofs.Kept.{View, ready, view}
 use Rattle.device.proofs.Laws.{powered-sound, power-0}
 use Rattle.operation.specs.Marks.{marked}
 use Rattle.clock.specs.Fold.{World, world, onward, through}
 use Rattle.stream.specs.Run.{samples, overvolted, misshapen, runNumber, ranOf}
-use Rattle.demands.specs.History.{clock, after, ending, powered, isThere, operations, contents, done, Demand3, Demand3Run}
-use Rattle.demands.proofs.Turns.{Good, steps}
+use Rattle.demands.specs.History.{Event, clock, after, ending, powered, isThere, tellsNone, operations, contents, done, Demand3, Demand3Run}
+use Rattle.demands.proofs.Counting.{off-absent}
+use Rattle.demands.proofs.Turns.{Good, steps, op-none}
 use Rattle.demands.proofs.Demand3.{good-after, demand-3}
 
 -- a sample that is stepped goes on as the fold does
@@ -98,10 +110,68 @@ module _ (image stream answers : List ℕ) (straps program slice pause : ℕ) (n
   unfolding ranOf
   run-marks = rw z (ap (λ (w : World). w .device .controller .marks) (sym end))
 
+  run-status : ranOf image stream answers straps program slice pause .report .status
+      ≡ statusOf (ending (map clock (samples stream)) (powered straps program slice pause image) .device .controller)
+  unfolding ranOf
+  run-status = rw z (ap (λ (w : World). statusOf (w .device .controller)) (sym end))
+
+-- a good world is good at the end
+good-ending : (es : List Event) (w : World) → Good w → Good (ending es w)
+good-ending [] w g = g
+good-ending (e ∷ es) w g = good-ending es (after e w) (good-after e w g)
+
+-- only a ready controller tells of no operation: a computed test of every byte of error bits, for each condition
+abbrev isReadyOne : Condition → Bool
+isReadyOne Ready = true
+isReadyOne Running = false
+isReadyOne Pausing = false
+isReadyOne ProgramSuspended = false
+isReadyOne EraseSuspended = false
+isReadyOne ProgramInside = false
+
+telling : Condition → ℕ → Bool
+telling k e = cond (eqb (bitAnd e 0x3A) e) (cond (tellsNone (bitOr e (conditionBits k))) (isReadyOne k) true) true
+
+module _ (e : ℕ) (h : e < 256) where
+  telling-of : (k : Condition) → telling k e ≡ true
+  unfolding telling
+  telling-of Ready = sym (at (telling Ready) 256 e true h) ∙ at (λ (i : ℕ). true) 256 e true h
+  telling-of Running = sym (at (telling Running) 256 e true h) ∙ at (λ (i : ℕ). true) 256 e true h
+  telling-of Pausing = sym (at (telling Pausing) 256 e true h) ∙ at (λ (i : ℕ). true) 256 e true h
+  telling-of ProgramSuspended = sym (at (telling ProgramSuspended) 256 e true h) ∙ at (λ (i : ℕ). true) 256 e true h
+  telling-of EraseSuspended = sym (at (telling EraseSuspended) 256 e true h) ∙ at (λ (i : ℕ). true) 256 e true h
+  telling-of ProgramInside = sym (at (telling ProgramInside) 256 e true h) ∙ at (λ (i : ℕ). true) 256 e true h
+
+is-ready : (c : Controller) → controllerFits c ≡ true → tellsNone (statusOf c) ≡ true → isReadyOne (conditionOf c) ≡ true
+unfolding statusOf telling
+is-ready c f t =
+    let k = clauses c f .errors in
+    let x = eqb-true (bitAnd (c .errors) 0x3A) (c .errors) k in
+    let l = and-le-r (c .errors) 0x3A in
+    rw (k, t) at (telling-of (c .errors) (omega (arith, x, l)) (conditionOf c))
+
+bare : (k : Condition) (c : Controller) → View c k → isReadyOne k ≡ true → (isAbsent (c .outer) ≡ true) × (isAbsent (c .inner) ≡ true)
+bare Ready c (ready i o) e = (o, i)
+bare Running c v e = clash e
+bare Pausing c v e = clash e
+bare ProgramSuspended c v e = clash e
+bare EraseSuspended c v e = clash e
+bare ProgramInside c v e = clash e
+
+none-told : (b : ℕ) (w : World) → Good w → tellsNone (statusOf (w .device .controller)) ≡ true → isThere b w ≡ false
+none-told b w g t =
+    let f = parts (w .device) (g .sound) .controller in
+    let n = bare (conditionOf (w .device .controller)) (w .device .controller) (view (w .device .controller)) (is-ready (w .device .controller) f t) in
+    rw (op-none b (w .device .controller) (off-absent b (w .device .controller .outer) (n .0)) (off-absent b (w .device .controller .inner) (n .1)))
+
 pub demand-3-run : Demand3Run
 unfolding Demand3Run Demand3
 demand-3-run image stream answers straps program slice pause block h n m t =
+    let f = d image stream answers straps program slice pause n in
+    let w = powered straps program slice pause image in
+    let g = good-ending (map clock (samples stream)) w (record { sound = powered-sound straps program slice pause; size = f .size }) in
+    let u = none-told block (ending (map clock (samples stream)) w) g (ap tellsNone (sym (run-status image stream answers straps program slice pause n)) ∙ t) in
     ap (contents block) (run-image image stream answers straps program slice pause n)
-    ∙ demand-3 straps program slice pause image (map clock (samples stream)) block (d image stream answers straps program slice pause n .size) h
+    ∙ demand-3 straps program slice pause image (map clock (samples stream)) block (f .size) h
     (ap (λ (k : ℕ). marked k block) (sym (run-marks image stream answers straps program slice pause n)) ∙ m)
-    t
+    u

@@ -197,7 +197,7 @@ reset-marks : (c : Controller) → resetOf c .marks ≡ markedBy (c .inner) (mar
 unfolding resetOf
 reset-marks c = refl
 
-op-none : (b : ℕ) (c : Controller) → isOn b (c .outer) ≡ false → isOn b (c .inner) ≡ false → opOf b c ≡ absent
+pub op-none : (b : ℕ) (c : Controller) → isOn b (c .outer) ≡ false → isOn b (c .inner) ≡ false → opOf b c ≡ absent
 unfolding opOf
 op-none b c x y = rw (x, y)
 

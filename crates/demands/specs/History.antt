@@ -1,6 +1,6 @@
 -- Demand 3 in its own words: histories, the operations of a block as they are read off the devices, what was allowed, and
 -- what the finished operations make of the block's first contents. Assumes nothing.
-use Prim.Native.Nat.{ℕ, _*_, _%_, _<_}
+use Prim.Native.Nat.{ℕ, _*_, _/_, _%_, _<_}
 use mathlib.Core.Path.{_≡_}
 use mathlib.Core.Bool.{Bool, true, false, cond, not}
 use mathlib.Core.List.{List, [], _∷_, _++_, map}
@@ -160,13 +160,18 @@ Demand3Allowed =
     → block < 16
     → allAllowed block (operations block history (powered straps program slice pause image)) ≡ true
 
--- the same of a run, as the host sees it: its samples are a history of clocks from power-up
+-- the status register tells of no operation: bit 7 is 1, bits 6 and 2 are 0
+abbrev pub tellsNone : ℕ → Bool
+tellsNone status =
+    cond (eqb (status / 128 % 2) 1) (cond (eqb (status / 64 % 2) 0) (eqb (status / 4 % 2) 0) false) false
+
+-- the same of a run, by what the host is told: its samples are a history of clocks from power-up
 unfoldable pub Demand3Run : Type 0
 Demand3Run =
     (image stream answers : List ℕ) (straps program slice pause : ℕ) (block : ℕ)
     → block < 16
     → ranOf image stream answers straps program slice pause .report .number ≡ 0
     → marked (ranOf image stream answers straps program slice pause .report .marks) block ≡ false
-    → isThere block (ending (map clock (samples stream)) (powered straps program slice pause image)) ≡ false
+    → tellsNone (ranOf image stream answers straps program slice pause .report .status) ≡ true
     → contents block (ranOf image stream answers straps program slice pause .image)
     ≡ done (operations block (map clock (samples stream)) (powered straps program slice pause image)) (contents block image)
