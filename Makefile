@@ -6,6 +6,7 @@
 #   make host    the host's programs
 #   make quick   the host's tests alone, with the library that is there
 #   make fuzz    the library against the C model on random traffic, until stopped
+#   make bench   how fast the library is, beside the C model
 #   make tidy    cppcheck and clang-tidy over the host
 #   make clean
 
@@ -82,8 +83,10 @@ PROGRAMS += $(BUILD)/step_test $(BUILD)/operation_test
 TESTS    += $(BUILD)/step_test $(BUILD)/operation_test
 endif
 
-# The check against the model in C and the bay program bring their own rules, and call the whole face.
+# The check against the model in C, the speed beside it, and the bay program bring their own rules, and call the whole
+# face.
 -include host/CHECK.mk
+-include host/SPEED.mk
 -include host/bay/BAY.mk
 ifeq ($(LACKS),)
 ifneq ($(wildcard host/CHECK.mk),)
@@ -91,8 +94,8 @@ CHECK_PROGRAMS ?= $(BUILD)/diff $(BUILD)/case
 CHECK_TESTS    ?= '$(BUILD)/case $(CHECK_CASES)' $(BUILD)/diff
 endif
 NEEDS    += $(if $(BAY_TESTS),bay tidy)
-PROGRAMS += $(CHECK_PROGRAMS) $(BAY_PROGRAMS)
-TESTS    += $(CHECK_TESTS) $(BAY_TESTS)
+PROGRAMS += $(CHECK_PROGRAMS) $(SPEED_PROGRAMS) $(BAY_PROGRAMS)
+TESTS    += $(CHECK_TESTS) $(SPEED_TESTS) $(BAY_TESTS)
 endif
 
 $(BUILD)/layout_test: host/layout_test.c

@@ -1,11 +1,12 @@
 /* Sends random traces through the proved model and through the hand-written one and stops at the first departure:
  * every answer byte, number, status, mark and image byte is compared.
  *
- *   diff [--clocks N] [--seed S] [--forever]
+ *   diff [--clocks N] [--seed S] [--forever] [--record FILE]
  *
  * Traces take the seeds S, S + 1, S + 2 and so on until N clocks are done. A trace depends on its seed alone, so a
  * departure is seen again with its seed and `--clocks 1`. What the traces reached is counted and printed; in a run of a
- * million clocks or more a count of zero fails. */
+ * million clocks or more a count of zero fails. FILE gets the traces that went through run, one behind the other: a bay
+ * sheet, the number of samples in four bytes with the lowest first, and the samples. */
 #include "model.h"
 #include "pod.h"
 #include "same_device.h"
@@ -145,6 +146,7 @@ static bool pinpoint; /* looking for the clock of a departure in the image */
 static bool after_traces;
 static const struct pod_device *tried; /* the device of wild bytes, or of one fault, that is being tried */
 static uint16_t dirty_blocks;
+static FILE *record; /* where the traces that went through run are written, or NULL */
 
 /* how this trace behaves */
 static uint16_t pins;           /* TBL, WP, class and inputs, RP and INIT high */
@@ -1668,6 +1670,24 @@ static void restore(uint8_t *image, uint16_t blocks)
             memcpy(image + b * BLOCK, base_image + b * BLOCK, BLOCK);
 }
 
+static void record_trace(void)
+{
+    uint8_t head[MODEL_SHEET_BYTES + 4];
+
+    model_sheet_write(head, MODEL_SHEET_BYTES, power_straps, power_times);
+    for (uint32_t i = 0; i < 4; i++)
+        head[MODEL_SHEET_BYTES + i] = (uint8_t)(clock_number >> (8 * i));
+    fwrite(head, 1, sizeof head, record);
+    fwrite(stream, 2, clock_number, record);
+}
+
+static bool end_record(void)
+{
+    const bool written = ferror(record) == 0;
+
+    return fclose(record) == 0 && written;
+}
+
 /* The whole trace once more, through run. */
 static void run_whole_trace(void)
 {
@@ -1702,6 +1722,8 @@ static void run_whole_trace(void)
     expect_image("the model's run", model_run_image, 0, IMAGE + SPARE);
     restore(model_run_image, dirty_blocks);
     counts[RUNS]++;
+    if (record != NULL)
+        record_trace();
 }
 
 static void run_trace(uint64_t seed)
@@ -1851,6 +1873,7 @@ int main(int argc, char **argv)
 {
     uint64_t clocks = 10000000, seed = 1;
     bool forever = false, understood = true;
+    const char *record_name = NULL;
 
     for (int i = 1; i < argc; i++) {
         if (strcmp(argv[i], "--forever") == 0)
@@ -1859,12 +1882,18 @@ int main(int argc, char **argv)
             understood &= number_argument(argv[++i], &clocks);
         else if (strcmp(argv[i], "--seed") == 0 && i + 1 < argc)
             understood &= number_argument(argv[++i], &seed);
+        else if (strcmp(argv[i], "--record") == 0 && i + 1 < argc)
+            record_name = argv[++i];
         else
             understood = false;
     }
     if (!understood) {
-        printf("usage: diff [--clocks N] [--seed S] [--forever]\n");
+        printf("usage: diff [--clocks N] [--seed S] [--forever] [--record FILE]\n");
         return 2;
+    }
+    if (record_name != NULL && (record = fopen(record_name, "wb")) == NULL) {
+        printf("diff: expected a file that can be written, found none at %s\n", record_name);
+        return 1;
     }
 
     base_image = malloc(IMAGE + SPARE);
@@ -1894,6 +1923,10 @@ int main(int argc, char **argv)
     }
     if (clocks >= COUNTED_CLOCKS)
         settle_whole_erase();
+    if (record != NULL && !end_record()) {
+        printf("diff: expected room for all traces, found an end of it in %s\n", record_name);
+        return 1;
+    }
     const uint32_t zeros = print_counts();
     printf("diff: seeds %" PRIu64 " to %" PRIu64 ", %" PRIu64 " traces\n", seed, next - 1, all_traces);
     if (zeros != 0 && clocks >= COUNTED_CLOCKS) {

@@ -29,6 +29,14 @@ fn begin(lines: u8) -> Frame
     frame(0, 0, 0, 0)
 }
 
+// The address with one more nibble.
+pub fn shift(address: u32, nibble: u8) -> u32
+    requires { ⌜ nibble < 16 ⌝ }
+    ensures { λ r. ⌜ r ≡ shifted address nibble ⌝ }
+{
+    address % 0x1000000 * 16 + (nibble as u32)
+}
+
 // The head, the same for both kinds: strap, address, size.
 fn head(straps: u8, f: Frame, lines: u8) -> Frame
     requires { ⌜ f .clock < 10 ⌝ }
@@ -42,12 +50,7 @@ fn head(straps: u8, f: Frame, lines: u8) -> Frame
         return frame(0, 0, 0, 0);
     }
     if f.clock < 9 {
-        return frame(
-            f.kind,
-            f.clock + 1,
-            0,
-            f.address % 0x1000000 * 16 + (lines as u32),
-        );
+        return frame(f.kind, f.clock + 1, 0, shift(f.address, lines));
     }
     if lines == 0 {
         return frame(f.kind, 10, 0, f.address);

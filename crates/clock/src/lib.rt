@@ -37,7 +37,7 @@ pub struct Advanced {
     pub told: Told,
 }
 
-fn is_reset(sample: u16) -> bool
+pub fn is_reset(sample: u16) -> bool
     ensures { λ r. ⌜ r ≡ isReset sample ⌝ }
 {
     if sample / 32 % 2 == 0 {

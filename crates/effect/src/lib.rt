@@ -13,7 +13,7 @@ pub enum Effect {
     Fill { start: u32, count: u32, value: u8 },
 }
 
-fn fill(image: &mut [u8], start: usize, count: usize, value: u8)
+pub fn fill(image: &mut [u8], start: usize, count: usize, value: u8)
     requires { ⌜ start + count ≤ length (now image) ⌝ }
     ensures { λ _. ⌜ now (image .exit) ≡ filled (now (image .entry)) start count value ⌝ }
 {

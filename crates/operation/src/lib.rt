@@ -75,7 +75,7 @@ fn slice_start(o: Operation) -> u32
 }
 
 // One clock of an operation that runs or is pausing.
-fn tick(o: Operation) -> Ticked
+pub fn tick(o: Operation) -> Ticked
     requires { ⌜ operationFits o ≡ true ⌝ }
     ensures { λ r. ⌜ r ≡ tickedOf o ⌝ }
 {
@@ -125,7 +125,7 @@ fn tick(o: Operation) -> Ticked
 }
 
 // The operation that counts: the program inside a suspended erase where there is one.
-fn active_of(c: Controller) -> Operation
+pub fn active_of(c: Controller) -> Operation
     ensures { λ r. ⌜ r ≡ active c ⌝ }
 {
     let outer = c.outer;
@@ -136,7 +136,7 @@ fn active_of(c: Controller) -> Operation
     inner
 }
 
-fn is_still(o: Operation) -> bool
+pub fn is_still(o: Operation) -> bool
     ensures { λ r. ⌜ r ≡ isStill o ⌝ }
 {
     if o.kind == 0 {
@@ -146,7 +146,7 @@ fn is_still(o: Operation) -> bool
 }
 
 // A finished erase removes its block's mark, and nothing else does.
-fn marks_after(marks: u16, o: Operation, finished: bool) -> u16
+pub fn marks_after(marks: u16, o: Operation, finished: bool) -> u16
     requires { ⌜ operationFits o ≡ true ⌝ }
     ensures { λ r. ⌜ r ≡ marksAfter marks o finished ⌝ }
 {
@@ -160,7 +160,7 @@ fn marks_after(marks: u16, o: Operation, finished: bool) -> u16
 }
 
 // The controller with another operation in the place of the active one, and other marks.
-fn replace(c: Controller, o: Operation, marks: u16) -> Controller
+pub fn replace(c: Controller, o: Operation, marks: u16) -> Controller
     ensures { λ r. ⌜ r ≡ replaced c o marks ⌝ }
 {
     let mut next = c;

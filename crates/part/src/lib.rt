@@ -184,13 +184,22 @@ const REGISTERS: [Entry; 19] = [
     },
 ];
 
-// The register at an address, `Missing` where none of the nineteen stands.
+// The register at an address, `Missing` where none of the nineteen stands. The lock of block b is entry b, and b can be
+// read off its address: of the sixteen locks only that entry can stand there.
 pub fn look_up(address: u32) -> Register
     ensures { λ r. ⌜ r ≡ registerAt address ⌝ }
 {
-    let mut i: usize = 0;
+    // once: each mention of a constant makes it anew
+    let table = REGISTERS;
+    let b = (address / 0x10000 % 16) as usize;
+    let lock = table[b];
+    if lock.at == address {
+        let w = lock.what;
+        return w;
+    }
+    let mut i: usize = 16;
     while i < 19 {
-        let e = REGISTERS[i];
+        let e = table[i];
         if e.at == address {
             let w = e.what;
             return w;

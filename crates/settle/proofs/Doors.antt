@@ -1,6 +1,6 @@
 -- What each test has found where a settle's number is 0, and what the settle gives then and otherwise. Assumes nothing.
 use mathlib.Core.Path.{_≡_, _∙_, sym, refl}
-use mathlib.Core.Bool.{Bool, true}
+use mathlib.Core.Bool.{Bool, true, false}
 use mathlib.Core.List.{List}
 use Prim.Native.Nat.{ℕ}
 use lib.Dec.{eqb}
@@ -8,18 +8,25 @@ use lib.ListN.{length}
 use borrow.Author.Tests.{ne-eqb, eqb-true, eqb-false}
 use Rattle.laws.proofs.Rules.{ask, yes, no}
 use Rattle.record.specs.declared.Device.{Device}
+use Rattle.record.specs.Sample.{voltage}
 use Rattle.device.specs.Sound.{soundOf}
 use Rattle.clock.specs.Fold.{world}
-use Rattle.settle.specs.Settle.{stop, settling, settleNumber, settled, stopNumber, settledOf, imageSettled}
+use Rattle.settle.specs.Settle.{isRestless, stop, settling, settleNumber, settled, stopNumber, settledOf, imageSettled}
 
 module _ (d : Device) (image : List ℕ) (sample : ℕ) {number : ℕ} (e : number ≡ settleNumber d image sample) where
-  pub accepts : number ≡ 0 → (soundOf d ≡ true) × (length image ≡ 1048576)
+  pub accepts : number ≡ 0 → (soundOf d ≡ true) × ((length image ≡ 1048576) × (isRestless sample ≡ false))
   unfolding settleNumber
   accepts n =
       let z = sym e ∙ n in
       elim (ask (soundOf d)) [
         | yes s ↦ elim (ask (eqb (length image) 1048576)) [
-          | yes l ↦ (s, eqb-true (length image) 1048576 l)
+          | yes l ↦ elim (ask (eqb (voltage sample) 3)) [
+            | yes v ↦ absurd (eqb-false 7 0 refl (rw (s, l, v) at z))
+            | no v ↦ elim (ask (isRestless sample)) [
+              | yes r ↦ absurd (eqb-false 9 0 refl (rw (s, l, v, r) at z))
+              | no r ↦ (s, (eqb-true (length image) 1048576 l, r))
+            ]
+          ]
           | no l ↦ absurd (eqb-false 2 0 refl (rw (s, l) at z))
         ]
         | no s ↦ absurd (eqb-false 1 0 refl (rw s at z))

@@ -1,3 +1,5 @@
+pub mod Still
+pub mod Idle
 pub mod Turns
 pub mod Doors
 pub mod Least

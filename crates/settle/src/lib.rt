@@ -2,12 +2,15 @@
 use clock::advance;
 use device::sound;
 use device::status;
+use lapse::pass;
 use part::Part;
+use record::Controller;
 use record::Device;
 ghost use mathlib.Core.Path.{_≡_};
-ghost use mathlib.Core.Bool.{true};
+ghost use mathlib.Core.Bool.{true, false};
 ghost use lib.ListN.{length};
 ghost use Rattle.device.specs.Sound.{soundOf};
+ghost use Rattle.access.specs.Write.{withController};
 ghost use Rattle.clock.specs.Fold.{world};
 ghost use Rattle.settle.specs.Settle.{isReady, isRestless, stop, settling, settleNumber, stopNumber, settledOf, imageSettled};
 
@@ -47,10 +50,21 @@ fn is_restless(sample: u16) -> bool
     sample / 64 % 2 == 0
 }
 
-// A sound device through one sample, up to `limit` times. The device stays sound, so that is not tested again.
+// The device with another controller.
+fn with_controller(d: Device, c: Controller) -> Device
+    ensures { λ r. ⌜ r ≡ withController d c ⌝ }
+{
+    let mut next = d;
+    next.controller = c;
+    next
+}
+
+// A sound device through one idle sample, up to `limit` times. A frame in progress goes clock by clock; behind it only
+// the controller moves, from one due effect to the next. The device stays sound, so that is not tested again.
 fn wait(device: Device, image: &mut [u8], sample: u16, limit: u32) -> Waited
     requires { ⌜ soundOf device ≡ true ⌝ }
     requires { ⌜ length (now image) ≡ 1048576 ⌝ }
+    requires { ⌜ isRestless sample ≡ false ⌝ }
     ensures { λ r. ⌜ stop (r .count) (r .ready) (world (r .device) (now (image .exit)))
         ≡ settling sample limit 0 (world device (now (image .entry))) ⌝ }
 {
@@ -62,6 +76,15 @@ fn wait(device: Device, image: &mut [u8], sample: u16, limit: u32) -> Waited
                 count,
                 ready: true,
                 device: d,
+            };
+        }
+        if d.frame.kind == 0 {
+            let p = pass(d.controller, image, limit - count);
+            let last = with_controller(d, p.controller);
+            return Waited {
+                count: count + p.count,
+                ready: is_ready(last),
+                device: last,
             };
         }
         let a = advance(d, image, sample);

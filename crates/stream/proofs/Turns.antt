@@ -1,19 +1,12 @@
 -- A run's two loops, turn by turn: the samples from a place on are the one there and those after it. Assumes nothing.
 use mathlib.Core.Path.{_≡_, refl}
-use mathlib.Core.Bool.{true}
-use mathlib.Core.List.{List, [], _∷_, _++_, append-assoc, append-nil}
+use mathlib.Core.List.{List, [], _∷_, _++_, append-nil}
 use Prim.Native.Nat.{ℕ, suc, _+_, _*_, _/_, _<_}
-use native.Mathlib.Numerals.{add-one}
 use native.Mathlib.Omega.{arith}
-use lib.ListN.{length, take, drop, set, length-drop, take-append-drop}
-use lib.Seq.{drop-cons, take-suc-set}
-use borrow.Author.Tests.{eq-eqb, ne-eqb}
-use Rattle.record.specs.declared.Device.{Device}
-use Rattle.record.specs.Sample.{voltage}
-use Rattle.clock.specs.declared.Advanced.{Advanced}
-use Rattle.clock.specs.Clock.{advancedOf, imageAfter}
-use Rattle.clock.specs.Fold.{World, world, onward, answerTo, through, answersTo}
-use Rattle.stream.specs.Run.{samples, sampleAt, overvolted}
+use lib.ListN.{length, take, drop, length-drop, take-append-drop}
+use lib.Seq.{drop-cons}
+use Rattle.clock.specs.Fold.{World, answersTo}
+use Rattle.stream.specs.Run.{samples, sampleAt}
 
 -- there are half as many samples as bytes
 pub samples-length : (s : List ℕ) → length (samples s) ≡ length s / 2
@@ -47,24 +40,3 @@ module _ (s : List ℕ) (k : ℕ) where
         let e : suc (2 * k) ≡ 2 * k + 1 = omega arith in
         let f : suc (2 * k + 1) ≡ 2 * (k + 1) = omega arith in
         rw (drop-cons s (2 * k) 0 (omega arith), e, drop-cons s (2 * k + 1) 0 h, f)
-
-    pub over-here : voltage (sampleAt s k) ≡ 3 → overvolted (samples (drop (2 * k) s)) ≡ true
-    over-here e = rw (samples-cons, eq-eqb (voltage (sampleAt s k)) 3 e)
-
-    pub over-later : (voltage (sampleAt s k) ≡ 3 → ⊥)
-        → overvolted (samples (drop (2 * k) s)) ≡ overvolted (samples (drop (2 * (k + 1)) s))
-    over-later n = rw (samples-cons, ne-eqb (voltage (sampleAt s k)) 3 n)
-
-    module _ (d : Device) (image : List ℕ) (x : ℕ) (a : Advanced) (later : List ℕ)
-        (ex : x ≡ sampleAt s k) (ea : a ≡ advancedOf d image x) (el : later ≡ imageAfter d image x)
-      where
-        pub through-turn : through (samples (drop (2 * (k + 1)) s)) (world (a .device) later)
-            ≡ through (samples (drop (2 * k) s)) (world d image)
-        unfolding onward
-        through-turn = rw (samples-cons, ea, el, ex)
-
-        pub answers-turn : (answers : List ℕ) → k < length answers
-            → take (k + 1) (set answers k (a .answer)) ++ answersTo (samples (drop (2 * (k + 1)) s)) (world (a .device) later)
-            ≡ take k answers ++ answersTo (samples (drop (2 * k) s)) (world d image)
-        unfolding onward answerTo
-        answers-turn answers l = rw (samples-cons, add-one k, take-suc-set, ea, el, ex, append-assoc)

@@ -6,11 +6,15 @@ use mathlib.Core.Bool.{true}
 use native.Mathlib.Nat.{sub-zero}
 use native.Mathlib.Omega.{arith}
 use lib.ListN.{length}
+use borrow.Author.Tests.{eq-eqb}
 use Rattle.device.specs.Sound.{soundOf}
+use Rattle.device.proofs.Clauses.{parts}
+use Rattle.lapse.proofs.Laws.{passing-most}
 use Rattle.clock.specs.Fold.{world}
 use Rattle.clock.proofs.Kept.{advanced-sound}
 use Rattle.settle.specs.Settle.{settling}
 use Rattle.settle.proofs.Turns.{stops, goes-on}
+use Rattle.settle.proofs.Idle.{waits}
 use Rattle.settle.proofs.wait.Statement.{statement}
 use Rattle.settle.proofs.wait.Tie as tie
 
@@ -37,10 +41,48 @@ returns c =
     let a = w .before .before .args in
     sym (stops (a .sample) (a .limit - w .loop .count) (w .loop .count) (world (w .loop .d) (w .loop .image)) (sym (c .before .is-ready .ensures) ∙ c .if1 .taken)) ∙ w .loop .inv .3
 
+sub-pass : tie.Need-sub-pass Inv-loop μ-loop
+sub-pass c = c .before .before .before .before .before .before .loop .inv .0
+
+pass-requires : tie.Need-pass-requires Inv-loop μ-loop
+pass-requires c κs =
+    let w = c .before .before .before .before .before .before in
+    (parts (w .loop .d) (w .loop .inv .2) .controller, w .loop .inv .1 ∙ w .before .before .pre .1 .0)
+
+with-controller-requires : tie.Need-with-controller-requires Inv-loop μ-loop
+with-controller-requires c κs = tt
+
+add-t14 : tie.Need-add-t14 Inv-loop μ-loop
+add-t14 c =
+    let t = c .before .before .before .before in
+    let w = t .before .before .before .before .before .before .before in
+    let n = w .before .before .args .limit - w .loop .count in
+    let l = rw (← t .pass .ensures) at (passing-most n 0 (w .loop .d .controller) (w .loop .image)) in
+    omega (arith, l)
+
+is-ready-requires-2 : tie.Need-is-ready-requires-2 Inv-loop μ-loop
+is-ready-requires-2 c κs = tt
+
+same-length-2 : tie.Need-same-length-2 Inv-loop μ-loop
+same-length-2 c =
+    let t = c .before .before .before .before .before in
+    let w = t .before .before .before .before .before .before .before in
+    omega (arith, t .pass .kept .1 .0, w .loop .inv .1)
+
+returns-2 : tie.Need-returns-2 Inv-loop μ-loop
+returns-2 c =
+    let t = c .before .before .before .before .before in
+    let i = t .before .before .before in
+    let w = i .before .before .before .before in
+    let limit = w .before .before .args .limit in
+    let z = w .loop .d in
+    let r = waits _ (w .before .before .pre .1 .1) (limit - w .loop .count) (w .loop .count) z (w .loop .image) _ _ _ (parts z (w .loop .inv .2) .controller) (eq-eqb (z .frame .kind) 0 (t .before .before .if2 .taken)) (t .pass .ensures) in
+    rw (c .is-ready2 .ensures, c .before .before .with-controller .ensures) r ∙ w .loop .inv .3
+
 advance-requires : tie.Need-advance-requires Inv-loop μ-loop
 advance-requires c κs =
-    let w = c .before .before .before .before in
-    (w .loop .inv .2, w .loop .inv .1 ∙ w .before .before .pre .1)
+    let w = c .before .before .before .before .before .before in
+    (w .loop .inv .2, w .loop .inv .1 ∙ w .before .before .pre .1 .0)
 
 add-count : tie.Need-add-count Inv-loop μ-loop
 add-count c = omega arith
@@ -51,7 +93,7 @@ loop-less c = omega arith
 loop-again : tie.Need-loop-again Inv-loop μ-loop
 loop-again c =
     let t = c .before .before .before in
-    let i = t .before .before in
+    let i = t .before .before .before .before in
     let w = i .before .before .before in
     let limit = w .before .before .args .limit in
     let e : limit - w .loop .count ≡ limit - (w .loop .count + 1) + 1 = omega arith in (
@@ -62,17 +104,17 @@ loop-again c =
           ∙ w .loop .inv .3,
     )
 
-is-ready-requires-2 : tie.Need-is-ready-requires-2 Inv-loop μ-loop
-is-ready-requires-2 c κs = tt
+is-ready-requires-3 : tie.Need-is-ready-requires-3 Inv-loop μ-loop
+is-ready-requires-3 c κs = tt
 
-same-length-2 : tie.Need-same-length-2 Inv-loop μ-loop
-same-length-2 c = omega arith
+same-length-3 : tie.Need-same-length-3 Inv-loop μ-loop
+same-length-3 c = omega arith
 
-returns-2 : tie.Need-returns-2 Inv-loop μ-loop
-returns-2 c =
+returns-3 : tie.Need-returns-3 Inv-loop μ-loop
+returns-3 c =
     let w = c .before .before in
     let e : w .before .before .args .limit - w .loop .count ≡ 0 = omega arith in
-    rw (c .is-ready2 .ensures) (rw e at (w .loop .inv .3))
+    rw (c .is-ready3 .ensures) (rw e at (w .loop .inv .3))
 
 pub wait-spec : {M : Type 1} → statement M
 wait-spec =
@@ -84,10 +126,17 @@ wait-spec =
     is-ready-requires
     same-length
     returns
+    sub-pass
+    pass-requires
+    with-controller-requires
+    add-t14
+    is-ready-requires-2
+    same-length-2
+    returns-2
     advance-requires
     add-count
     loop-less
     loop-again
-    is-ready-requires-2
-    same-length-2
-    returns-2)
+    is-ready-requires-3
+    same-length-3
+    returns-3)

@@ -19,7 +19,7 @@ walk-requires c κs =
     let i = p .before .before in
     let f = accepts _ _ _ _ _ _ _ (i .before .run-number .ensures) (i .if1 .taken) in (
       rw (p .fresh .ensures, p .before .times-of .ensures) (fresh-sound _ _ (omega (arith, f .strapped)) (f .timely)),
-      (f .whole, f .roomy),
+      (f .whole, (f .short, f .roomy)),
     )
 
 cast-t25 : tie.Need-cast-t25

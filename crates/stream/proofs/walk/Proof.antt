@@ -1,85 +1,64 @@
--- `stream::walk` meets its contract: the samples from place k on, from the world as it is there, lead where all of them
--- lead from the start; the answers before place k are given, those past the samples are untouched. Assumes nothing.
-use Prim.Native.Nat.{_≤_, _<_, _+_, _-_, _*_, _/_}
+-- `stream::walk` meets its contract: the samples up to place k have led from the first world to the one there, and their
+-- answers stand in the buffer. Assumes nothing.
+use Prim.Native.Nat.{_≤_, _-_, _/_}
 use mathlib.Core.Path.{_≡_, _∙_, refl}
 use mathlib.Core.Bool.{true}
-use mathlib.Core.List.{_++_}
 use native.Mathlib.Omega.{arith}
-use lib.ListN.{length, take, drop, length-set}
-use lib.Seq.{drop-set-lt}
+use lib.ListN.{length}
 use Rattle.device.specs.Sound.{soundOf}
-use Rattle.clock.specs.Fold.{world, through, answersTo}
-use Rattle.clock.proofs.Kept.{advanced-sound}
-use Rattle.stream.specs.Run.{samples}
-use Rattle.stream.proofs.Turns.{samples-end, answers-end, through-turn, answers-turn}
+use Rattle.clock.specs.Fold.{world}
+use Rattle.stream.specs.Glide.{Onto}
+use Rattle.stream.proofs.Turns.{samples-end, answers-end}
+use Rattle.stream.proofs.Leads.{stays, onward-onto}
 use Rattle.stream.proofs.walk.Statement.{statement}
 use Rattle.stream.proofs.walk.Tie as tie
 
 abbrev Inv-loop : tie.InvT-loop
 Inv-loop image₀ stream answers₀ n d₀ k₀ image answers d k =
-    (k ≤ n) × (length image ≡ length image₀) × (length answers ≡ length answers₀)
-    × (soundOf d ≡ true)
-    × (through (samples (drop (2 * k) stream)) (world d image) ≡ through (samples stream) (world d₀ image₀))
-    × (drop n answers ≡ drop n answers₀)
-    × (take k answers ++ answersTo (samples (drop (2 * k) stream)) (world d image)
-    ≡ answersTo (samples stream) (world d₀ image₀))
+    (k ≤ n) × (length image ≡ length image₀) × (soundOf d ≡ true)
+    × Onto stream 0 (world d₀ image₀) answers₀ k (world d image) answers
 
 abbrev μ-loop : tie.MeasureT-loop
 μ-loop image₀ stream answers₀ n d₀ k₀ image answers d k = n - k
 
 loop-holds : tie.Need-loop-holds Inv-loop μ-loop
-loop-holds c = (omega arith, refl, refl, c .before .before .before .pre .0, refl, refl, refl)
+loop-holds c = (omega arith, refl, c .before .before .before .pre .0, stays _ _ _ _)
 
-sample-at-requires : tie.Need-sample-at-requires Inv-loop μ-loop
-sample-at-requires c κs = omega arith
-
-advance-requires : tie.Need-advance-requires Inv-loop μ-loop
-advance-requires c κs =
+turn-requires : tie.Need-turn-requires Inv-loop μ-loop
+turn-requires c κs =
     let w = c .before .before .before in
-    (w .loop .inv .3, w .loop .inv .1 ∙ w .before .before .before .before .pre .1 .0)
-
-slice-write-answers : tie.Need-slice-write-answers Inv-loop μ-loop
-slice-write-answers c = omega arith
-
-add-k : tie.Need-add-k Inv-loop μ-loop
-add-k c =
-    let w = c .before .before .before .before .before .before in
-    omega (arith, w .loop-test, w .before .before .before .before .before .good)
+    let z = w .before .before .before .before in
+    let m = w .loop .inv in
+    let i = c .before .before .loop-test in
+    (m .2, (m .1 ∙ z .pre .1 .0, (omega (arith, i), (omega arith, (omega (arith, m .3 .size, z .pre .1 .1 .1), omega (arith, z .pre .1 .1 .0))))))
 
 loop-less : tie.Need-loop-less Inv-loop μ-loop
-loop-less c = omega arith
+loop-less c =
+    let x = c .before .before .before .before .before .turn .ensures in
+    omega (arith, x .0, x .1)
 
 loop-again : tie.Need-loop-again Inv-loop μ-loop
 loop-again c =
-    let t = c .before .before .before in
+    let t = c .before .before .before .before .before in
     let w = t .before .before .before .before in
-    let s = w .before .before .before .before .args .stream .now in
-    let k = w .loop .k in
-    let h : 2 * k + 1 < length s = omega arith in (
-      omega arith,
-      omega (arith, t .advance .kept .1 .0),
-      simp length-set (omega arith),
-      rw (t .advance .ensures .0) (advanced-sound (w .loop .d) (w .loop .image) _ (w .loop .inv .3)),
-      through-turn s k h (w .loop .d) (w .loop .image) _ _ _ (t .before .sample-at .ensures) (t .advance .ensures .0) (t .advance .ensures .1)
-          ∙ w .loop .inv .4,
-      drop-set-lt (length s / 2) (w .loop .answers) k _ (omega arith) ∙ w .loop .inv .5,
-      answers-turn s k h (w .loop .d) (w .loop .image) _ _ _ (t .before .sample-at .ensures) (t .advance .ensures .0) (t .advance .ensures .1) (w .loop .answers) (omega arith)
-          ∙ w .loop .inv .6,
-    )
+    let x = t .turn .ensures in
+    let m = w .loop .inv in
+    (x .1, omega (arith, t .turn .kept .1 .0, m .1), x .2 .kept (m .2), onward-onto _ _ _ _ _ _ _ _ _ _ (m .3) (x .2))
 
 same-length : tie.Need-same-length Inv-loop μ-loop
-same-length c = omega arith
+same-length c = c .before .loop .inv .1
 
 same-length-2 : tie.Need-same-length-2 Inv-loop μ-loop
-same-length-2 c = omega arith
+same-length-2 c = c .before .loop .inv .3 .size
 
 returns : tie.Need-returns Inv-loop μ-loop
 returns c =
     let w = c .before in
     let s = w .before .before .before .before .args .stream .now in
+    let o = w .loop .inv .3 in
     let e : length s / 2 ≡ w .loop .k = omega arith in (
-      rw (samples-end s (w .loop .k) (omega arith)) at (w .loop .inv .4),
-      answers-end s (w .loop .k) _ _ _ _ e (w .loop .inv .5) (w .loop .inv .6),
+      rw (samples-end s (w .loop .k) (omega arith)) at (o .leads),
+      answers-end s (w .loop .k) _ _ _ _ e (rw (← e) at (o .beyond)) (o .told),
     )
 
 pub walk-spec : {M : Type 1} → statement M
@@ -89,10 +68,7 @@ walk-spec =
     Inv-loop
     μ-loop
     loop-holds
-    sample-at-requires
-    advance-requires
-    slice-write-answers
-    add-k
+    turn-requires
     loop-less
     loop-again
     same-length

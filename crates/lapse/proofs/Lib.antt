@@ -1,0 +1,5 @@
+pub mod Laws
+pub mod Aged
+pub mod Replaced
+pub mod NothingDue
+pub mod Turns
