@@ -1,42 +1,23 @@
--- A run's two loops, turn by turn: the samples from a place on are the one there and those after it. Assumes nothing.
+-- Looking for voltage class 3, turn by turn. Assumes nothing.
 use mathlib.Core.Path.{_≡_, refl}
-use mathlib.Core.List.{List, [], _∷_, _++_, append-nil}
-use Prim.Native.Nat.{ℕ, suc, _+_, _*_, _/_, _<_}
-use native.Mathlib.Omega.{arith}
-use lib.ListN.{length, take, drop, length-drop, take-append-drop}
-use lib.Seq.{drop-cons}
-use Rattle.clock.specs.Fold.{World, answersTo}
-use Rattle.stream.specs.Run.{samples, sampleAt}
+use mathlib.Core.Bool.{Bool, true, false, _||_}
+use mathlib.Core.List.{List}
+use Prim.Native.Nat.{ℕ, _+_, _*_, _<_}
+use lib.Dec.{eqb}
+use lib.ListN.{length, drop}
+use Rattle.laws.proofs.Rules.{ask, yes, no}
+use Rattle.record.specs.Sample.{voltage}
+use Rattle.walk.specs.Samples.{samples, sampleAt}
+use Rattle.walk.proofs.Turns.{samples-cons}
+use Rattle.stream.specs.Run.{overvolted}
 
--- there are half as many samples as bytes
-pub samples-length : (s : List ℕ) → length (samples s) ≡ length s / 2
-samples-length [] = refl
-samples-length (l ∷ []) = refl
-samples-length (l ∷ h ∷ s) = let e : length (samples s) ≡ length s / 2 = samples-length s in omega arith
+pub over-turn : (s : List ℕ) (k : ℕ) (over : Bool) → 2 * k + 1 < length s
+    → ((over || eqb (voltage (sampleAt s k)) 3) || overvolted (samples (drop (2 * (k + 1)) s)))
+    ≡ (over || overvolted (samples (drop (2 * k) s)))
+over-turn s k true h = refl
+over-turn s k false h =
+    elim (ask (eqb (voltage (sampleAt s k)) 3)) [ yes e ↦ rw (samples-cons s k h, e) | no e ↦ rw (samples-cons s k h, e) ]
 
-few : (s : List ℕ) → length s < 2 → samples s ≡ []
-few [] h = refl
-few (l ∷ []) h = refl
-few (l ∷ m ∷ s) h = absurd (omega arith)
-
-module _ (s : List ℕ) (k : ℕ) where
-  -- past the last sample there is none
-  pub samples-end : length s < 2 * k + 2 → samples (drop (2 * k) s) ≡ []
-  samples-end h = few (drop (2 * k) s) (simp length-drop (omega arith))
-
-  -- at the end: the answers that were given, and the bytes past them as they were lent
-  pub answers-end : (w : World) (answers lent given : List ℕ)
-      → length s / 2 ≡ k
-      → drop (length s / 2) answers ≡ drop (length s / 2) lent
-      → take k answers ++ answersTo (samples (drop (2 * k) s)) w ≡ given
-      → answers ≡ given ++ drop (length (samples s)) lent
-  answers-end w answers lent given e f g =
-      rw
-      (samples-length s, ← f, ← g, samples-end (omega arith), append-nil (take k answers), e, take-append-drop k answers)
-
-  module _ (h : 2 * k + 1 < length s) where
-    pub samples-cons : samples (drop (2 * k) s) ≡ sampleAt s k ∷ samples (drop (2 * (k + 1)) s)
-    samples-cons =
-        let e : suc (2 * k) ≡ 2 * k + 1 = omega arith in
-        let f : suc (2 * k + 1) ≡ 2 * (k + 1) = omega arith in
-        rw (drop-cons s (2 * k) 0 (omega arith), e, drop-cons s (2 * k + 1) 0 h, f)
+pub over-end : (over : Bool) → (over || false) ≡ over
+over-end true = refl
+over-end false = refl

@@ -9,17 +9,8 @@ use Rattle.record.specs.Sample.{voltage}
 use Rattle.part.specs.Fresh.{freshOf}
 use Rattle.device.specs.Status.{statusOf}
 use Rattle.clock.specs.Fold.{World, world, through, answersTo}
+use Rattle.walk.specs.Samples.{samples}
 use Rattle.stream.specs.declared.Report.{Report}
-
--- a sample is two bytes, lower first
-abbrev pub samples : List ℕ → List ℕ
-samples [] = []
-samples (l ∷ []) = []
-samples (l ∷ h ∷ bytes) = (l + 256 * h) ∷ samples bytes
-
--- the sample at place k of a stream
-abbrev pub sampleAt : List ℕ → ℕ → ℕ
-sampleAt stream k = getD stream (2 * k) 0 + 256 * getD stream (2 * k + 1) 0
 
 -- some sample has voltage class 3
 abbrev pub overvolted : List ℕ → Bool

@@ -1,0 +1,435 @@
+// A device through a stream of samples: stretches that are known at a glance at once, all else clock by clock.
+use access::reach;
+use access::value;
+use bus::Asked;
+use bus::ask;
+use bus::clock_frame;
+use bus::drive;
+use bus::shift;
+use clock::advance;
+use clock::is_reset;
+use effect::fill;
+use lapse::pass;
+use lapse::quiet;
+use operation::active_of;
+use operation::is_still;
+use record::Device;
+use record::Frame;
+ghost use mathlib.Core.Path.{_≡_};
+ghost use mathlib.Core.Bool.{true, false, _&&_};
+ghost use mathlib.Core.List.{_++_};
+ghost use Prim.Native.Nat.{_+_, _-_, _*_, _/_, _≤_, _<_};
+ghost use lib.ListN.{length, drop};
+ghost use Rattle.record.specs.Sample.{lines};
+ghost use Rattle.device.specs.Sound.{soundOf};
+ghost use Rattle.lapse.specs.Lapse.{lapsedImage, quietOf};
+ghost use Rattle.clock.specs.Fold.{world, through, answersTo};
+ghost use Rattle.walk.specs.Samples.{samples, sampleAt};
+ghost use Rattle.walk.specs.Glance.{plain, allPlain, addressAt, isOver, isResting, restOf, wholeOf, sixteenPlain, byteAt, readAnswers, laterOf, worldAt, put, Skipped, Onto};
+
+// A sample of two bytes, lower first.
+fn join(low: u8, high: u8) -> u16
+    ensures { λ r. ⌜ r ≡ low + 256 * high ⌝ }
+{
+    (low as u16) + 256 * (high as u16)
+}
+
+// The sample at place k.
+pub fn sample_at(stream: &[u8], k: usize) -> u16
+    requires { ⌜ 2 * k + 1 < length (now stream) ⌝ }
+    ensures { λ r. ⌜ r ≡ sampleAt (now (stream .entry)) k ⌝ }
+{
+    join(stream[2 * k], stream[2 * k + 1])
+}
+
+fn both(a: bool, b: bool) -> bool
+    ensures { λ r. ⌜ r ≡ (a && b) ⌝ }
+{
+    if a {
+        return b;
+    }
+    false
+}
+
+// Whether the frame line, RP and INIT are high.
+fn is_plain(sample: u16) -> bool
+    ensures { λ r. ⌜ r ≡ plain sample ⌝ }
+{
+    sample / 16 % 8 == 7
+}
+
+fn are_plain(stream: &[u8], from: usize, count: usize) -> bool
+    requires { ⌜ 2 * (from + count) ≤ length (now stream) ⌝ }
+    ensures { λ r. ⌜ r ≡ allPlain (now (stream .entry)) from count ⌝ }
+{
+    let mut all = true;
+    let mut i: usize = 0;
+    while i < count {
+        all = both(all, is_plain(sample_at(stream, from + i)));
+        i += 1;
+    }
+    all
+}
+
+fn lines_at(stream: &[u8], k: usize) -> u8
+    requires { ⌜ 2 * k + 1 < length (now stream) ⌝ }
+    ensures { λ r. ⌜ r ≡ lines (sampleAt (now (stream .entry)) k) ⌝ }
+{
+    (sample_at(stream, k) % 16) as u8
+}
+
+// The address that seven samples shift in.
+fn address_at(stream: &[u8], from: usize) -> u32
+    requires { ⌜ 2 * (from + 7) ≤ length (now stream) ⌝ }
+    ensures { λ r. ⌜ r ≡ addressAt (now (stream .entry)) from ⌝ }
+{
+    let mut address: u32 = 0;
+    let mut i: usize = 0;
+    while i < 7 {
+        address = shift(address, lines_at(stream, from + i));
+        i += 1;
+    }
+    address
+}
+
+// Whether at place k a frame begins with this nibble, its first clocks in the stream before place `to`.
+fn is_whole(stream: &[u8], straps: u8, nibble: u16, k: usize, to: usize, clocks: usize) -> bool
+    requires { ⌜ k < to ⌝ }
+    requires { ⌜ 2 * to ≤ length (now stream) ⌝ }
+    requires { ⌜ 10 ≤ clocks ⌝ }
+    requires { ⌜ nibble < 16 ⌝ }
+    ensures { λ r. ⌜ r ≡ wholeOf (now (stream .entry)) straps nibble k to clocks ⌝ }
+{
+    if sample_at(stream, k) % 128 == 96 + nibble {
+        if clocks <= to - k {
+            if lines_at(stream, k + 1) == straps {
+                if lines_at(stream, k + 9) == 0 {
+                    return are_plain(stream, k + 1, clocks - 1);
+                }
+                return false;
+            }
+            return false;
+        }
+        return false;
+    }
+    false
+}
+
+fn is_over(f: Frame) -> bool
+    ensures { λ r. ⌜ r ≡ isOver f ⌝ }
+{
+    if f.kind == 0 {
+        return true;
+    }
+    if f.kind == 1 {
+        return f.clock == 18;
+    }
+    f.clock == 16
+}
+
+fn is_resting(f: Frame, sample: u16) -> bool
+    ensures { λ r. ⌜ r ≡ isResting f sample ⌝ }
+{
+    if is_plain(sample) {
+        return is_over(f);
+    }
+    false
+}
+
+fn rest(f: Frame) -> Frame
+    ensures { λ r. ⌜ r ≡ restOf f ⌝ }
+{
+    if f.kind == 0 {
+        return f;
+    }
+    Frame {
+        kind: 0,
+        clock: 0,
+        byte: 0,
+        address: 0,
+    }
+}
+
+// The data byte of a write that begins at place k.
+fn byte_at(stream: &[u8], k: usize) -> u8
+    requires { ⌜ 2 * (k + 12) ≤ length (now stream) ⌝ }
+    ensures { λ r. ⌜ r ≡ byteAt (now (stream .entry)) k ⌝ }
+{
+    lines_at(stream, k + 10) % 16 + 16 * lines_at(stream, k + 11)
+}
+
+fn has_sixteen(stream: &[u8], k: usize, to: usize) -> bool
+    requires { ⌜ k ≤ to ⌝ }
+    requires { ⌜ 2 * to ≤ length (now stream) ⌝ }
+    ensures { λ r. ⌜ r ≡ sixteenPlain (now (stream .entry)) k to ⌝ }
+{
+    if 16 <= to - k {
+        return are_plain(stream, k, 16);
+    }
+    false
+}
+
+// The answers to plain samples of an idle bus, from place `from` on, sixteen at once as far as that goes.
+fn stride(stream: &[u8], answers: &mut [u8], from: usize, to: usize) -> usize
+    requires { ⌜ from ≤ to ⌝ }
+    requires { ⌜ 2 * to ≤ length (now stream) ⌝ }
+    requires { ⌜ to ≤ length (now answers) ⌝ }
+    ensures { λ r. ⌜ (from ≤ r) × (r ≤ to)
+        × Skipped (now (stream .entry)) (now (answers .entry)) from r (now (answers .exit)) ⌝ }
+{
+    let mut k = from;
+    while has_sixteen(stream, k, to) {
+        fill(answers, k, 16, 0);
+        k += 16;
+    }
+    k
+}
+
+// The same one by one, up to place `to` or a sample that is not plain.
+fn stroll(stream: &[u8], answers: &mut [u8], from: usize, to: usize) -> usize
+    requires { ⌜ from ≤ to ⌝ }
+    requires { ⌜ 2 * to ≤ length (now stream) ⌝ }
+    requires { ⌜ to ≤ length (now answers) ⌝ }
+    ensures { λ r. ⌜ (from ≤ r) × (r ≤ to)
+        × Skipped (now (stream .entry)) (now (answers .entry)) from r (now (answers .exit))
+        × (r < to → plain (sampleAt (now (stream .entry)) r) ≡ false) ⌝ }
+{
+    let mut k = from;
+    while k < to {
+        if is_plain(sample_at(stream, k)) {
+            fill(answers, k, 1, 0);
+            k += 1;
+        } else {
+            return k;
+        }
+    }
+    k
+}
+
+// All of them.
+fn skip(stream: &[u8], answers: &mut [u8], from: usize, to: usize) -> usize
+    requires { ⌜ from < to ⌝ }
+    requires { ⌜ 2 * to ≤ length (now stream) ⌝ }
+    requires { ⌜ to ≤ length (now answers) ⌝ }
+    requires { ⌜ plain (sampleAt (now stream) from) ≡ true ⌝ }
+    ensures { λ r. ⌜ (from < r) × (r ≤ to)
+        × Skipped (now (stream .entry)) (now (answers .entry)) from r (now (answers .exit)) ⌝ }
+{
+    let k = stride(stream, answers, from, to);
+    stroll(stream, answers, k, to)
+}
+
+// The answers to a whole read.
+fn answer_read(answers: &mut [u8], from: usize, byte: u8)
+    requires { ⌜ from + 18 ≤ length (now answers) ⌝ }
+    ensures { λ _. ⌜ now (answers .exit) ≡ put (now (answers .entry)) from (readAnswers byte) ⌝ }
+{
+    let mut i: usize = 0;
+    while i < 18 {
+        let f = Frame {
+            kind: 1,
+            clock: (i + 1) as u8,
+            byte,
+            address: 0,
+        };
+        answers[from + i] = drive(f);
+        i += 1;
+    }
+}
+
+// How far the bus has come alone: up to which place, and the frame then.
+struct Glided {
+    pub done: usize,
+    pub frame: Frame,
+}
+
+// The bus alone, while nothing is due in the controller: idle stretches and whole reads at once, other clocks one by one.
+// It stops before a reset, before a clock on which the frame asks for something, and before a whole write.
+fn glide(
+    d: Device,
+    image: &[u8],
+    stream: &[u8],
+    answers: &mut [u8],
+    from: usize,
+    to: usize,
+) -> Glided
+    requires { ⌜ soundOf d ≡ true ⌝ }
+    requires { ⌜ length (now image) ≡ 1048576 ⌝ }
+    requires { ⌜ from ≤ to ⌝ }
+    requires { ⌜ 2 * to ≤ length (now stream) ⌝ }
+    requires { ⌜ to ≤ length (now answers) ⌝ }
+    requires { ⌜ to - from ≤ quietOf (d .controller) ⌝ }
+    ensures { λ r. ⌜ (r .done ≤ to)
+        × Onto (now (stream .entry)) from (world d (now (image .entry))) (now (answers .entry))
+        (r .done) (worldAt d (now (image .entry)) (r .done - from) (r .frame)) (now (answers .exit)) ⌝ }
+{
+    let mut f = d.frame;
+    let mut k = from;
+    while k < to {
+        let sample = sample_at(stream, k);
+        if is_resting(f, sample) {
+            k = skip(stream, answers, k, to);
+            f = rest(f);
+        } else {
+            if is_whole(stream, d.straps, 13, k, to, 18) {
+                let address = address_at(stream, k + 2);
+                let at = (address % 1048576) as usize;
+                let byte = value(d, sample_at(stream, k + 14), address, image[at]);
+                answer_read(answers, k, byte);
+                f = Frame {
+                    kind: 1,
+                    clock: 18,
+                    byte,
+                    address,
+                };
+                k += 18;
+            } else {
+                if is_whole(stream, d.straps, 14, k, to, 12) {
+                    return Glided { done: k, frame: f };
+                }
+                if is_reset(sample) {
+                    return Glided { done: k, frame: f };
+                }
+                let next = clock_frame(d.straps, f, sample);
+                match ask(next) {
+                    Asked::Nothing => {
+                        answers[k] = drive(next);
+                        f = next;
+                        k += 1;
+                    }
+                    Asked::Read(_) => {
+                        return Glided { done: k, frame: f };
+                    }
+                    Asked::Write(_, _) => {
+                        return Glided { done: k, frame: f };
+                    }
+                }
+            }
+        }
+    }
+    Glided { done: k, frame: f }
+}
+
+// The device n clocks later, nothing having been said to its controller, with the frame that the bus has come to.
+fn later(d: Device, image: &mut [u8], f: Frame, n: u32) -> Device
+    requires { ⌜ soundOf d ≡ true ⌝ }
+    requires { ⌜ length (now image) ≡ 1048576 ⌝ }
+    ensures { λ r. ⌜ (r ≡ laterOf n f d)
+        × (now (image .exit) ≡ lapsedImage n (d .controller) (now (image .entry))) ⌝ }
+{
+    let c = d.controller;
+    let mut next = d;
+    next.frame = f;
+    let o = active_of(c);
+    if is_still(o) {
+        return next;
+    }
+    let p = pass(c, image, n);
+    let counted = p.controller;
+    next.controller = counted;
+    next
+}
+
+fn least(a: usize, b: usize) -> usize
+    ensures { λ r. ⌜ (r ≤ a) × (r ≤ b) ⌝ }
+{
+    if a < b {
+        return a;
+    }
+    b
+}
+
+// How far a turn has come: the device, and the place of the next sample.
+struct Turned {
+    pub device: Device,
+    pub place: usize,
+}
+
+// The samples from place k on, as many as are known at a glance: what the bus does alone, and then an idle stretch with
+// all that falls due in it, or a whole write, or else one clock.
+fn turn(
+    d: Device,
+    image: &mut [u8],
+    stream: &[u8],
+    answers: &mut [u8],
+    k: usize,
+    n: usize,
+) -> Turned
+    requires { ⌜ soundOf d ≡ true ⌝ }
+    requires { ⌜ length (now image) ≡ 1048576 ⌝ }
+    requires { ⌜ k < n ⌝ }
+    requires { ⌜ 2 * n ≤ length (now stream) ⌝ }
+    requires { ⌜ n ≤ length (now answers) ⌝ }
+    requires { ⌜ n ≤ 65536 ⌝ }
+    ensures { λ r. ⌜ (k < r .place) × (r .place ≤ n)
+        × Onto (now (stream .entry)) k (world d (now (image .entry))) (now (answers .entry))
+        (r .place) (world (r .device) (now (image .exit))) (now (answers .exit)) ⌝ }
+{
+    let c = d.controller;
+    let ahead = quiet(c) as usize;
+    let g = glide(d, image, stream, answers, k, k + least(n - k, ahead));
+    let f = g.frame;
+    let at = g.done;
+    if at < n {
+        let sample = sample_at(stream, at);
+        if is_resting(f, sample) {
+            let place = skip(stream, answers, at, n);
+            return Turned {
+                device: later(d, image, rest(f), (place - k) as u32),
+                place,
+            };
+        }
+        if is_whole(stream, d.straps, 14, at, n, 12) {
+            let byte = byte_at(stream, at);
+            let address = address_at(stream, at + 2);
+            let last = Frame {
+                kind: 2,
+                clock: 12,
+                byte,
+                address,
+            };
+            let e = later(d, image, last, (at + 12 - k) as u32);
+            let r = reach(e, sample_at(stream, at + 11), address, byte);
+            let device = r.device;
+            fill(answers, at, 12, 0);
+            return Turned {
+                device,
+                place: at + 12,
+            };
+        }
+        let e = later(d, image, f, (at - k) as u32);
+        let a = advance(e, image, sample);
+        let device = a.device;
+        answers[at] = a.answer;
+        return Turned {
+            device,
+            place: at + 1,
+        };
+    }
+    Turned {
+        device: later(d, image, f, (at - k) as u32),
+        place: at,
+    }
+}
+
+// A sound device through every sample, each with its answer byte. The device stays sound, so that is not tested again.
+pub fn walk(device: Device, image: &mut [u8], stream: &[u8], answers: &mut [u8]) -> Device
+    requires { ⌜ soundOf device ≡ true ⌝ }
+    requires { ⌜ length (now image) ≡ 1048576 ⌝ }
+    requires { ⌜ length (now stream) ≤ 131072 ⌝ }
+    requires { ⌜ length (now stream) / 2 ≤ length (now answers) ⌝ }
+    ensures { λ r. ⌜ (world r (now (image .exit)) ≡ through (samples (now (stream .entry))) (world device (now (image .entry))))
+        × (now (answers .exit)
+        ≡ answersTo (samples (now (stream .entry))) (world device (now (image .entry)))
+        ++ drop (length (samples (now (stream .entry)))) (now (answers .entry))) ⌝ }
+{
+    let n = stream.len() / 2;
+    let mut d = device;
+    let mut k: usize = 0;
+    while k < n {
+        let t = turn(d, image, stream, answers, k, n);
+        d = t.device;
+        k = t.place;
+    }
+    d
+}
