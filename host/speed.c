@@ -535,17 +535,20 @@ static void print_tables(void)
     static const enum way runs[] = {MODEL_RUN, POD_RUN}, steps[] = {MODEL_STEP, POD_STEP, POD_CLOCK};
 
     printf("\n## pod_run beside model_run\n\n"
-           "Million clocks in a second, on streams of %s samples. A ratio above 1 says that the pod is the faster.\n",
+           "Million clocks in a second, on streams of %s samples. A ratio above 1 says that the pod is the faster.\n"
+           "model_run steps every clock; pod_run takes what it knows at a glance at once. In the rows of an erase begun\n"
+           "a slice takes 3,906 µs, so that none ends in the stream.\n",
            with_commas(MAX_SAMPLES));
     print_mix();
     printf("\n");
     print_streams(runs, sizeof runs / sizeof runs[0]);
-    printf("\n## pod_step and pod_clock beside model_step\n\nThe same streams, a call for each sample.\n\n");
+    printf("\n## pod_step and pod_clock beside model_step\n\nThe same streams, a call for each sample. "
+           "pod_step and pod_clock test every device handed in for\nsoundness; model_step has no such test.\n\n");
     print_streams(steps, sizeof steps / sizeof steps[0]);
     printf("\n## pod_settle beside as many calls of pod_clock\n\n"
            "From the end of the frame that begins it, which is %d clocks behind its acceptance. The image is not put\n"
-           "back: each call writes what stands there already. Where the last column has a number, the time is scaled\n"
-           "from so many clocks in the middle of the wait.\n\n",
+           "back: each call but the first of a round writes what stands there already. Where the last column has a\n"
+           "number, the time is scaled from so many clocks in the middle of the wait.\n\n",
            AFTER_ACTING);
     print_waits();
     printf("\n## Bytes of the device record\n\n");

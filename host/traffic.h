@@ -242,8 +242,8 @@ static const struct {
     {"array reads", {10, 3906, 30}, array_reads},
     {"programs, 10 µs, status polled", {10, 3906, 30}, programs_polled},
     {"programs, 10 µs, idle wait", {10, 3906, 30}, programs_waited},
-    {"erase, slices of 3,906 µs, idle bus", {10, 3906, 30}, erase_idle},
-    {"erase, slices of 3,906 µs, status polled", {10, 3906, 30}, erase_polled},
+    {"erase begun, idle bus", {10, 3906, 30}, erase_idle},
+    {"erase begun, status polled", {10, 3906, 30}, erase_polled},
     {"erases, slices of 1 µs, idle wait", {10, 1, 30}, erases_short},
 };
 enum { KINDS = sizeof kinds / sizeof kinds[0] };

@@ -1,3 +1,4 @@
+pub mod Eventless
 pub mod Doors
 pub mod Kept
 pub mod Broken

@@ -1,3 +1,4 @@
 pub mod Clock
+pub mod Eventless
 pub mod Step
 pub mod Fold

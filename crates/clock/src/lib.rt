@@ -10,7 +10,9 @@ use command::Verdict;
 use device::sound;
 use effect::Effect;
 use effect::apply;
+use operation::active_of;
 use operation::count;
+use operation::is_still;
 use operation::reset;
 use part::Part;
 use record::Device;
@@ -20,6 +22,7 @@ ghost use mathlib.Core.Bool.{true};
 ghost use lib.ListN.{length};
 ghost use Rattle.device.specs.Sound.{soundOf, controllerFits};
 ghost use Rattle.clock.specs.Clock.{isReset, resetDevice, isCut, servedOf, advancedOf, imageAfter};
+ghost use Rattle.clock.specs.Eventless.{isEventless};
 ghost use Rattle.clock.specs.Step.{steppedOf, storedOf};
 
 // What happened on a clock, beside the device: the effect on the array, the judgement that was made, and whether an
@@ -94,6 +97,21 @@ fn serve(d: Device, image: &[u8], sample: u16) -> Reached
     }
 }
 
+// Whether the bus is idle and stays so and no operation counts. Then a clock without a reset changes nothing.
+fn is_eventless(d: Device, sample: u16) -> bool
+    ensures { λ r. ⌜ r ≡ isEventless d sample ⌝ }
+{
+    if sample / 16 % 2 == 0 {
+        return false;
+    }
+    if d.frame.kind == 0 {
+        let c = d.controller;
+        let o = active_of(c);
+        return is_still(o);
+    }
+    false
+}
+
 // One clock of a sound device on a whole image. It has no refusals.
 pub fn advance(d: Device, image: &mut [u8], sample: u16) -> Advanced
     requires { ⌜ soundOf d ≡ true ⌝ }
@@ -110,6 +128,18 @@ pub fn advance(d: Device, image: &mut [u8], sample: u16) -> Advanced
                 verdict: Verdict::Unjudged,
                 finished: false,
                 cut: d.controller.outer.kind != 0,
+            },
+        };
+    }
+    if is_eventless(d, sample) {
+        return Advanced {
+            device: d,
+            answer: 0,
+            told: Told {
+                effect: Effect::Nothing,
+                verdict: Verdict::Unjudged,
+                finished: false,
+                cut: false,
             },
         };
     }

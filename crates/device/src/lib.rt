@@ -69,7 +69,7 @@ pub fn status(c: Controller) -> u8
     c.errors | condition_bits(condition_of(c))
 }
 
-fn both(a: bool, b: bool) -> bool
+pub fn both(a: bool, b: bool) -> bool
     ensures { λ r. ⌜ r ≡ (a && b) ⌝ }
 {
     a && b

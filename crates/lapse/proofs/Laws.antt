@@ -6,10 +6,10 @@ use Prim.Native.Nat.{ℕ, zero, suc, _+_, _≤_}
 use native.Mathlib.Omega.{arith}
 use Rattle.laws.proofs.Rules.{ask, yes, no}
 use Rattle.record.specs.declared.Controller.{Controller}
-use Rattle.effect.specs.declared.Effect.the-variants.{Nothing}
 use Rattle.effect.specs.Effect.{applied}
 use Rattle.device.specs.Sound.{controllerFits}
-use Rattle.operation.specs.Clock.{active, isStill, counted, countedOf}
+use Rattle.operation.specs.Clock.{active, isStill, countedOf}
+use Rattle.operation.proofs.Facts.{still-counted}
 use Rattle.operation.proofs.Kept.{counted-kept}
 use Rattle.lapse.specs.Lapse.{lapsed, lapsedImage, Pass, pass, passing}
 
@@ -47,10 +47,6 @@ passing-most (suc n) count c image =
     ]
 
 -- where nothing counts, no clock does anything
-still-counted : (c : Controller) → isStill (active c) ≡ true → countedOf c ≡ counted c Nothing false
-unfolding countedOf
-still-counted c e = rw e
-
 pub still-lapsed : (n : ℕ) (c : Controller) (image : List ℕ)
     → isStill (active c) ≡ true
     → (lapsed n c ≡ c) × (lapsedImage n c image ≡ image)

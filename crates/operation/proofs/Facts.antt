@@ -12,7 +12,8 @@ use Rattle.record.specs.declared.Operation.{Operation}
 use Rattle.record.specs.declared.Controller.{Controller}
 use Rattle.record.specs.Record.{isAbsent, isProgram, isErase, isRunning, isSuspended, blockOf}
 use Rattle.device.specs.Sound.{operationFits, leftFits, stateFits, counts, outerFits, innerFits, inside, controllerFits}
-use Rattle.operation.specs.Clock.{active, isStill}
+use Rattle.effect.specs.declared.Effect.the-variants.{Nothing}
+use Rattle.operation.specs.Clock.{active, isStill, counted, countedOf}
 
 pub record Fits (o : Operation) : Type 0 where
   pub times : timesFit (o .times) ≡ true
@@ -67,3 +68,8 @@ active-fits c e = pick (ask (isAbsent (c .inner)))
     pick : Answer (isAbsent (c .inner)) → isAbsent (cond (isAbsent (c .inner)) (c .outer) (c .inner)) ≡ false → operationFits (cond (isAbsent (c .inner)) (c .outer) (c .inner)) ≡ true
     pick (yes a) = λ n. rw a (outer-fits c e (rw a at n))
     pick (no a) = λ n. rw a (inner-fits c e a)
+
+-- where nothing counts, a clock changes nothing
+pub still-counted : (c : Controller) → isStill (active c) ≡ true → countedOf c ≡ counted c Nothing false
+unfolding countedOf
+still-counted c e = rw e

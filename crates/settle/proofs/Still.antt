@@ -22,6 +22,7 @@ use Rattle.operation.proofs.Facts.{outer-fits}
 use Rattle.operation.proofs.Kept.{suspended-else}
 use Rattle.settle.specs.Settle.{isReady}
 
+-- in this condition no operation counts
 abbrev stands : Condition → Bool
 stands Ready = true
 stands Running = false

@@ -29,7 +29,8 @@ fn either(a: bool, b: bool) -> bool
     b
 }
 
-// Whether some sample has voltage class 3. It looks at all of them, which is quicker than to stop at the first.
+// Whether some sample has voltage class 3. It does not stop at the first, so that a stream without one, as most are, goes
+// several samples at a time.
 fn is_overvolted(stream: &[u8]) -> bool
     ensures { λ r. ⌜ r ≡ overvolted (samples (now (stream .entry))) ⌝ }
 {

@@ -11,14 +11,14 @@ use Rattle.device.specs.Sound.{soundOf}
 use Rattle.clock.specs.Fold.{World, onward, answerTo, through, answersTo}
 use Rattle.clock.proofs.Kept.{advanced-sound}
 use Rattle.walk.specs.Samples.{sampleAt}
-use Rattle.walk.specs.Glance.{put, rest, Onto}
+use Rattle.walk.specs.Glance.{put, samplesFrom, Onto}
 use Rattle.walk.proofs.Turns.{samples-cons}
 
--- the samples from place k to place m take world w to world v and are answered by these bytes
+-- at place m with world v all that is still to come goes as at place k with world w, the answers between being these bytes
 pub record Leads (s : List ℕ) (k : ℕ) (w : World) (m : ℕ) (v : World) (bytes : List ℕ) : Type 0 where
   pub ahead : m ≡ k + length bytes
-  pub leads : through (rest s m) v ≡ through (rest s k) w
-  pub told : bytes ++ answersTo (rest s m) v ≡ answersTo (rest s k) w
+  pub leads : through (samplesFrom s m) v ≡ through (samplesFrom s k) w
+  pub told : bytes ++ answersTo (samplesFrom s m) v ≡ answersTo (samplesFrom s k) w
   pub kept : soundOf (w .device) ≡ true → soundOf (v .device) ≡ true
 
 pub none : (s : List ℕ) (k : ℕ) (w : World) → Leads s k w k w []
@@ -48,7 +48,7 @@ join s k l m u v w before bytes a b =
     record {
       ahead = rw (length-append before bytes) (omega (arith, a .ahead, b .ahead));
       leads = b .leads ∙ a .leads;
-      told = rw (append-assoc before bytes (answersTo (rest s m) w), b .told) (a .told);
+      told = rw (append-assoc before bytes (answersTo (samplesFrom s m) w), b .told) (a .told);
       kept = λ h. b .kept (a .kept h);
     }
 
@@ -66,7 +66,7 @@ lands s k m w v bytes buffer later l h e =
       forward = omega arith;
       leads = l .leads;
       told =
-          rw (e, ← x, take-at (take k buffer ++ bytes) (drop m buffer) m f, append-assoc (take k buffer) bytes (answersTo (rest s m) v), l .told);
+          rw (e, ← x, take-at (take k buffer ++ bytes) (drop m buffer) m f, append-assoc (take k buffer) bytes (answersTo (samplesFrom s m) v), l .told);
       beyond = rw (e, ← x, drop-at (take k buffer ++ bytes) (drop m buffer) m f);
       size = rw (e, ← x, length-append (take k buffer ++ bytes) (drop m buffer), f, length-drop) (omega arith);
       kept = l .kept;

@@ -1,4 +1,4 @@
--- A run's two loops, turn by turn: the samples from a place on are the one there and those after it. Assumes nothing.
+-- The samples of a stream by place: the one there and those after it, and the answers at the end. Assumes nothing.
 use mathlib.Core.Path.{_≡_, refl}
 use mathlib.Core.List.{List, [], _∷_, _++_, append-nil}
 use Prim.Native.Nat.{ℕ, suc, _+_, _*_, _/_, _<_}

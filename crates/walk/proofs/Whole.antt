@@ -20,6 +20,7 @@ use Rattle.bus.specs.Frames.{begun, shifted, headed, readOn, writeOn, nextOf, f
 use Rattle.access.specs.Read.{isArray, arrayAddress, valueOf}
 use Rattle.access.specs.Write.{reachedOf}
 use Rattle.clock.specs.Clock.{isReset}
+use Rattle.clock.proofs.Eventless.{idle-silent}
 use Rattle.clock.specs.Fold.{world}
 use Rattle.walk.specs.Samples.{sampleAt}
 use Rattle.walk.specs.Glance.{plain, allPlain, addressOver, addressAt, isOver, restOf, wholeOf, byteAt, readAnswers, laterOf, worldAt}
@@ -299,7 +300,7 @@ module _ (d : Device) (image s : List ℕ) where
         (join s (k + 10) (k + 14) (k + 18) _ _ _ (driven 0 readAddress 10 4) _ turned
         (join s (k + 14) (k + 15) (k + 18) _ _ _ (16 ∷ []) (driven readValue readAddress 15 3) fixed tail))
 
-  -- the byte is no part of the frame's way, and what a write does leaves the frame
+  -- what a write does leaves the frame
   reached-frame : (x : Device) (sample a byte : ℕ) → reachedOf x sample a byte .device .frame ≡ x .frame
   unfolding reachedOf
   reached-frame x sample a byte =
@@ -358,16 +359,12 @@ module _ (d : Device) (image s : List ℕ) where
       pick (no i) (yes r) = let c = eqb-true (f .clock) 18 (rw (i, r) at o) in rw (p .high, i, r, c)
       pick (no i) (no r) = let c = eqb-true (f .clock) 16 (rw (i, r) at o) in rw (p .high, i, r, c)
 
-  none-asks : (f : Frame) → f .kind ≡ 0 → (askedOf f ≡ Silent) × (drivenOf f ≡ 0)
-  unfolding askedOf drivenOf
-  none-asks f e = rw e (refl, refl)
-
   silent-rest : (f : Frame) → (askedOf (restOf f) ≡ Silent) × (drivenOf (restOf f) ≡ 0)
   unfolding restOf askedOf drivenOf
   silent-rest f = pick (ask (isIdle f))
     where
       pick : Answer (isIdle f) → (askedOf (restOf f) ≡ Silent) × (drivenOf (restOf f) ≡ 0)
-      pick (yes i) = rw i (none-asks f (eqb-true (f .kind) 0 i))
+      pick (yes i) = rw i (idle-silent f (eqb-true (f .kind) 0 i))
       pick (no i) = rw i (refl, refl)
 
   over-rest : (f : Frame) → (isOver (restOf f) ≡ true) × (restOf (restOf f) ≡ restOf f)

@@ -1,41 +1,41 @@
--- What of a stream is known at a glance: stretches of an idle bus, and frames that lie in it whole. Assumes nothing.
+-- What of a stream is known at a glance: stretches of an idle bus, and frames that lie in it whole. Whole means a read up
+-- to clock 18, the last that drives, and a write up to clock 12, on which it acts. Assumes nothing.
 use Prim.Native.Nat.{ℕ, zero, suc, _+_, _-_, _*_, _%_, _/_, _≤_}
 use mathlib.Core.Path.{_≡_}
 use mathlib.Core.Bool.{Bool, true, false, cond, _&&_}
-use mathlib.Core.List.{List, _++_}
+use mathlib.Core.List.{List, [], _∷_, _++_}
 use lib.Dec.{eqb, leb}
-use lib.ListN.{length, take, drop}
-use Rattle.laws.proofs.Table.{from}
+use lib.ListN.{length, take, drop, replicate}
 use Rattle.record.specs.declared.Frame.{Frame}
 use Rattle.record.specs.declared.Device.{Device}
-use Rattle.record.specs.Record.{device, frame, idle, isIdle, isRead}
+use Rattle.record.specs.Record.{device, idle, isIdle, isRead}
 use Rattle.record.specs.Sample.{lines}
 use Rattle.device.specs.Sound.{soundOf}
 use Rattle.effect.specs.Effect.{filled}
 use Rattle.lapse.specs.Lapse.{lapsed, lapsedImage}
-use Rattle.bus.specs.Frames.{shifted, drivenOf}
+use Rattle.bus.specs.Frames.{shifted}
 use Rattle.clock.specs.Fold.{World, world, through, answersTo}
 use Rattle.walk.specs.Samples.{samples, sampleAt}
 
--- frame line, RP and INIT are high: the sample neither resets nor begins a frame
+-- frame line, RP and INIT are high: the sample neither resets, nor ends or begins a frame
 unfoldable pub plain : ℕ → Bool
 plain sample = eqb (sample / 16 % 8) 7
 
--- n samples from place k on
+-- n samples from place k on are plain
 abbrev pub allPlain : List ℕ → ℕ → ℕ → Bool
 allPlain s k zero = true
 allPlain s k (suc n) = plain (sampleAt s k) && allPlain s (k + 1) n
 
--- the address that n samples from place k on shift in
+-- the address that n samples from place k on shift in behind one that stands already
 abbrev pub addressOver : List ℕ → ℕ → ℕ → ℕ → ℕ
 addressOver s k zero address = address
 addressOver s k (suc n) address = addressOver s (k + 1) n (shifted address (lines (sampleAt s k)))
 
--- the seven nibbles of an address
+-- the address whose seven nibbles, highest first, stand from place k on
 unfoldable pub addressAt : List ℕ → ℕ → ℕ
 addressAt s k = addressOver s k 7 0
 
--- no frame, or one whose last clock is done
+-- no frame, or one with only its last clock to come, on which nothing is driven
 unfoldable pub isOver : Frame → Bool
 isOver f = cond (isIdle f) true (cond (isRead f) (eqb (f .clock) 18) (eqb (f .clock) 16))
 
@@ -46,8 +46,8 @@ isResting f sample = cond (plain sample) (isOver f) false
 unfoldable pub restOf : Frame → Frame
 restOf f = cond (isIdle f) f idle
 
--- at place k begins a frame with this nibble whose first n clocks lie before place `to`: the frame line is low on the
--- first and all others are plain, the straps match, the size is 0
+-- at place k begins a frame with this nibble whose first n clocks lie before place `to`: on the first the frame line is
+-- low, RP and INIT high, all others are plain, the straps match, the size is 0
 unfoldable pub wholeOf : List ℕ → ℕ → ℕ → ℕ → ℕ → ℕ → Bool
 wholeOf s straps nibble k to n =
     cond (eqb (sampleAt s k % 128) (96 + nibble))
@@ -58,7 +58,7 @@ wholeOf s straps nibble k to n =
     false)
     false
 
--- sixteen plain samples lie before place `to`
+-- the sixteen samples from place k on are plain and lie before place `to`
 unfoldable pub sixteenPlain : List ℕ → ℕ → ℕ → Bool
 sixteenPlain s k to = cond (leb 16 (to - k)) (allPlain s k 16) false
 
@@ -66,9 +66,10 @@ sixteenPlain s k to = cond (leb 16 (to - k)) (allPlain s k 16) false
 unfoldable pub byteAt : List ℕ → ℕ → ℕ
 byteAt s k = lines (sampleAt s (k + 10)) % 16 + 16 * lines (sampleAt s (k + 11))
 
--- the answers to a whole read of a value
+-- the answers to clocks 1 to 18 of a read that finds this byte
 abbrev pub readAnswers : ℕ → List ℕ
-readAnswers byte = from (λ (i : ℕ). drivenOf (frame 1 (i + 1) byte 0)) 0 18
+readAnswers byte =
+    replicate 12 0 ++ (0x15 ∷ 0x15 ∷ 0x10 ∷ (0x10 + byte % 16) ∷ (0x10 + byte / 16) ∷ 0x1F ∷ [])
 
 -- a device n clocks later with another frame, nothing having been said to its controller
 abbrev pub laterOf : ℕ → Frame → Device → Device
@@ -82,21 +83,22 @@ worldAt d image n f = world (laterOf n f d) (lapsedImage n (d .controller) image
 abbrev pub put : List ℕ → ℕ → List ℕ → List ℕ
 put buffer k bytes = take k buffer ++ bytes ++ drop (k + length bytes) buffer
 
--- from place k to place m all samples are plain, and each has the answer 0 in the buffer as it is later
+-- from place k to place m all samples are plain, and each has the answer 0 in the buffer as it is later, which is
+-- otherwise as it was
 pub record Skipped (s : List ℕ) (buffer : List ℕ) (k m : ℕ) (later : List ℕ) : Type 0 where
   pub plainly : allPlain s k (m - k) ≡ true
   pub zeros : later ≡ filled buffer k (m - k) 0
 
 -- the samples from place k on
-abbrev pub rest : List ℕ → ℕ → List ℕ
-rest s k = samples (drop (2 * k) s)
+abbrev pub samplesFrom : List ℕ → ℕ → List ℕ
+samplesFrom s k = samples (drop (2 * k) s)
 
--- the samples from place k to place m take world w to world v, sound if w is, and their answers stand in the buffer as it
--- is later
+-- at place m with world v all that is still to come goes as at place k with world w, v is sound if w is, and the answers
+-- between stand in the buffer as it is later
 pub record Onto (s : List ℕ) (k : ℕ) (w : World) (buffer : List ℕ) (m : ℕ) (v : World) (later : List ℕ) : Type 0 where
   pub forward : k ≤ m
-  pub leads : through (rest s m) v ≡ through (rest s k) w
-  pub told : take m later ++ answersTo (rest s m) v ≡ take k buffer ++ answersTo (rest s k) w
+  pub leads : through (samplesFrom s m) v ≡ through (samplesFrom s k) w
+  pub told : take m later ++ answersTo (samplesFrom s m) v ≡ take k buffer ++ answersTo (samplesFrom s k) w
   pub beyond : drop m later ≡ drop m buffer
   pub size : length later ≡ length buffer
   pub kept : soundOf (w .device) ≡ true → soundOf (v .device) ≡ true

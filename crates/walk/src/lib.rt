@@ -1,4 +1,5 @@
-// A device through a stream of samples: stretches that are known at a glance at once, all else clock by clock.
+// A device through a stream of samples: stretches that are known at a glance at once, all else clock by clock. What every
+// stretch leaves is promised; how far one goes is speed, and not promised.
 use access::reach;
 use access::value;
 use bus::Asked;
@@ -8,6 +9,7 @@ use bus::drive;
 use bus::shift;
 use clock::advance;
 use clock::is_reset;
+use device::both;
 use effect::fill;
 use lapse::pass;
 use lapse::quiet;
@@ -42,15 +44,6 @@ pub fn sample_at(stream: &[u8], k: usize) -> u16
     join(stream[2 * k], stream[2 * k + 1])
 }
 
-fn both(a: bool, b: bool) -> bool
-    ensures { λ r. ⌜ r ≡ (a && b) ⌝ }
-{
-    if a {
-        return b;
-    }
-    false
-}
-
 // Whether the frame line, RP and INIT are high.
 fn is_plain(sample: u16) -> bool
     ensures { λ r. ⌜ r ≡ plain sample ⌝ }
@@ -58,6 +51,7 @@ fn is_plain(sample: u16) -> bool
     sample / 16 % 8 == 7
 }
 
+// Whether so many samples are plain. It looks at all of them, so that several are looked at in one step.
 fn are_plain(stream: &[u8], from: usize, count: usize) -> bool
     requires { ⌜ 2 * (from + count) ≤ length (now stream) ⌝ }
     ensures { λ r. ⌜ r ≡ allPlain (now (stream .entry)) from count ⌝ }
@@ -71,6 +65,7 @@ fn are_plain(stream: &[u8], from: usize, count: usize) -> bool
     all
 }
 
+// The nibble on the lines.
 fn lines_at(stream: &[u8], k: usize) -> u8
     requires { ⌜ 2 * k + 1 < length (now stream) ⌝ }
     ensures { λ r. ⌜ r ≡ lines (sampleAt (now (stream .entry)) k) ⌝ }
@@ -92,7 +87,8 @@ fn address_at(stream: &[u8], from: usize) -> u32
     address
 }
 
-// Whether at place k a frame begins with this nibble, its first clocks in the stream before place `to`.
+// Whether at place k a frame begins with this nibble whose first `clocks` clocks lie before place `to`: the straps match,
+// the size is 0, and all its other samples are plain.
 fn is_whole(stream: &[u8], straps: u8, nibble: u16, k: usize, to: usize, clocks: usize) -> bool
     requires { ⌜ k < to ⌝ }
     requires { ⌜ 2 * to ≤ length (now stream) ⌝ }
@@ -115,6 +111,7 @@ fn is_whole(stream: &[u8], straps: u8, nibble: u16, k: usize, to: usize, clocks:
     false
 }
 
+// Whether no frame is in progress, or one with only its last clock to come.
 fn is_over(f: Frame) -> bool
     ensures { λ r. ⌜ r ≡ isOver f ⌝ }
 {
@@ -127,6 +124,7 @@ fn is_over(f: Frame) -> bool
     f.clock == 16
 }
 
+// Whether the bus rests and goes on resting.
 fn is_resting(f: Frame, sample: u16) -> bool
     ensures { λ r. ⌜ r ≡ isResting f sample ⌝ }
 {
@@ -136,6 +134,7 @@ fn is_resting(f: Frame, sample: u16) -> bool
     false
 }
 
+// The frame after that.
 fn rest(f: Frame) -> Frame
     ensures { λ r. ⌜ r ≡ restOf f ⌝ }
 {
@@ -158,6 +157,7 @@ fn byte_at(stream: &[u8], k: usize) -> u8
     lines_at(stream, k + 10) % 16 + 16 * lines_at(stream, k + 11)
 }
 
+// Whether sixteen plain samples lie before place `to`.
 fn has_sixteen(stream: &[u8], k: usize, to: usize) -> bool
     requires { ⌜ k ≤ to ⌝ }
     requires { ⌜ 2 * to ≤ length (now stream) ⌝ }
@@ -206,7 +206,7 @@ fn stroll(stream: &[u8], answers: &mut [u8], from: usize, to: usize) -> usize
     k
 }
 
-// All of them.
+// Both, one behind the other.
 fn skip(stream: &[u8], answers: &mut [u8], from: usize, to: usize) -> usize
     requires { ⌜ from < to ⌝ }
     requires { ⌜ 2 * to ≤ length (now stream) ⌝ }
@@ -237,9 +237,9 @@ fn answer_read(answers: &mut [u8], from: usize, byte: u8)
     }
 }
 
-// How far the bus has come alone: up to which place, and the frame then.
+// How far the bus has come alone: the place of the next sample, and the frame then.
 struct Glided {
-    pub done: usize,
+    pub place: usize,
     pub frame: Frame,
 }
 
@@ -259,9 +259,9 @@ fn glide(
     requires { ⌜ 2 * to ≤ length (now stream) ⌝ }
     requires { ⌜ to ≤ length (now answers) ⌝ }
     requires { ⌜ to - from ≤ quietOf (d .controller) ⌝ }
-    ensures { λ r. ⌜ (r .done ≤ to)
+    ensures { λ r. ⌜ (r .place ≤ to)
         × Onto (now (stream .entry)) from (world d (now (image .entry))) (now (answers .entry))
-        (r .done) (worldAt d (now (image .entry)) (r .done - from) (r .frame)) (now (answers .exit)) ⌝ }
+        (r .place) (worldAt d (now (image .entry)) (r .place - from) (r .frame)) (now (answers .exit)) ⌝ }
 {
     let mut f = d.frame;
     let mut k = from;
@@ -285,10 +285,10 @@ fn glide(
                 k += 18;
             } else {
                 if is_whole(stream, d.straps, 14, k, to, 12) {
-                    return Glided { done: k, frame: f };
+                    return Glided { place: k, frame: f };
                 }
                 if is_reset(sample) {
-                    return Glided { done: k, frame: f };
+                    return Glided { place: k, frame: f };
                 }
                 let next = clock_frame(d.straps, f, sample);
                 match ask(next) {
@@ -298,19 +298,20 @@ fn glide(
                         k += 1;
                     }
                     Asked::Read(_) => {
-                        return Glided { done: k, frame: f };
+                        return Glided { place: k, frame: f };
                     }
                     Asked::Write(_, _) => {
-                        return Glided { done: k, frame: f };
+                        return Glided { place: k, frame: f };
                     }
                 }
             }
         }
     }
-    Glided { done: k, frame: f }
+    Glided { place: k, frame: f }
 }
 
-// The device n clocks later, nothing having been said to its controller, with the frame that the bus has come to.
+// The device n clocks later, nothing having been said to its controller, with the frame that the bus has come to. Where no
+// operation counts, its controller is not taken out and put back.
 fn later(d: Device, image: &mut [u8], f: Frame, n: u32) -> Device
     requires { ⌜ soundOf d ≡ true ⌝ }
     requires { ⌜ length (now image) ≡ 1048576 ⌝ }
@@ -330,6 +331,7 @@ fn later(d: Device, image: &mut [u8], f: Frame, n: u32) -> Device
     next
 }
 
+// The lesser of two.
 fn least(a: usize, b: usize) -> usize
     ensures { λ r. ⌜ (r ≤ a) × (r ≤ b) ⌝ }
 {
@@ -369,7 +371,7 @@ fn turn(
     let ahead = quiet(c) as usize;
     let g = glide(d, image, stream, answers, k, k + least(n - k, ahead));
     let f = g.frame;
-    let at = g.done;
+    let at = g.place;
     if at < n {
         let sample = sample_at(stream, at);
         if is_resting(f, sample) {

@@ -1,8 +1,12 @@
+-- `clock::advance` meets its contract: a reset, a clock on which nothing happens, or the controller and then the
+-- bus. Assumes nothing.
 use borrow.Author.Needs.{needs}
+use mathlib.Core.Path.{_∙_, sym}
 use native.Mathlib.Omega.{arith}
 use Rattle.clock.specs.Clock.{isCut, imageAfter, advancedOf}
 use Rattle.operation.proofs.Within.{counted-within}
 use Rattle.device.proofs.Clauses.{parts}
+use Rattle.clock.proofs.Eventless.{eventless-advanced, eventless-image}
 use Rattle.clock.proofs.advance.Statement.{statement}
 use Rattle.clock.proofs.advance.Tie as tie
 
@@ -14,9 +18,21 @@ advance-spec =
     (λ c κs. search needs)
     (λ c κs. parts _ (c .before .before .before .pre .0) .controller)
     (λ c. (rw (c .before .reset-device .ensures, ← c .before .before .before .is-reset .ensures, c .before .before .if1 .taken), rw (← c .before .before .before .is-reset .ensures, c .before .before .if1 .taken)))
-    (λ c κs. parts _ (c .before .before .before .before .pre .0) .controller)
-    (λ c κs. rw (c .before .before .count .ensures, c .before .before .before .before .before .before .before .pre .1) (counted-within _ (parts _ (c .before .before .before .before .before .before .before .pre .0) .controller)))
-    (λ c κs. omega (arith, c .before .before .before .apply .kept .1 .0, c .before .before .before .before .before .before .before .before .before .before .before .pre .1))
+    (λ c κs. search needs)
+    (λ c.
+    let i = c .before in
+    let z = i .before .before .before .before in
+    let r = sym (i .before .before .is-reset .ensures) ∙ i .before .if1 .left in
+    let e = sym (i .is-eventless .ensures) ∙ c .if2 .taken in
+    (eventless-advanced (z .args .d) (z .args .image .now) (z .args .sample) r e, eventless-image (z .args .d) (z .args .image .now) (z .args .sample) r e))
+    (λ c κs. parts _ (c .before .before .before .before .before .before .pre .0) .controller)
+    (λ c κs. rw (c .before .before .count .ensures, c .before .before .before .before .before .before .before .before .before .pre .1) (counted-within _ (parts _ (c .before .before .before .before .before .before .before .before .before .pre .0) .controller)))
+    (λ c κs. omega (arith, c .before .before .before .apply .kept .1 .0, c .before .before .before .before .before .before .before .before .before .before .before .before .before .pre .1))
     (λ c κs. search needs)
     (λ c. omega (arith, c .before .before .before .before .before .before .before .apply .kept .1 .0))
-    (λ c. (rw (c .drive .ensures, c .before .before .before .serve .ensures, c .before .before .before .before .before .before .before .apply .ensures, c .before .before .before .before .before .before .before .before .before .before .count .ensures, ← c .before .before .before .before .before .before .before .before .before .before .before .before .before .is-reset .ensures, c .before .before .before .before .before .before .before .before .before .before .before .before .if1 .left), rw (c .before .before .before .before .before .before .before .apply .ensures, c .before .before .before .before .before .before .before .before .before .before .count .ensures, ← c .before .before .before .before .before .before .before .before .before .before .before .before .before .is-reset .ensures, c .before .before .before .before .before .before .before .before .before .before .before .before .if1 .left))))
+    (λ c.
+    let a = c .before .before .before .before .before .before .before in
+    let k = a .before .before .before in
+    let e = k .before .before .before .before in
+    let r = e .before in
+    (rw (c .drive .ensures, c .before .before .before .serve .ensures, a .apply .ensures, k .count .ensures, ← r .is-reset .ensures, e .if1 .left), rw (a .apply .ensures, k .count .ensures, ← r .is-reset .ensures, e .if1 .left))))

@@ -1,4 +1,5 @@
--- `lapse::pass` meets its contract. Assumes nothing.
+-- `lapse::pass` meets its contract: with the operation as it is after some clocks in its place, what is left of the wait
+-- stops where all of it does. Assumes nothing.
 use Prim.Native.Nat.{_≤_, _-_}
 use mathlib.Core.Path.{_≡_, _∙_, sym, refl}
 use native.Mathlib.Nat.{sub-zero}

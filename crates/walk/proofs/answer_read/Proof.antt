@@ -44,6 +44,7 @@ loop-less : tie.Need-loop-less Inv-loop μ-loop
 loop-less c = omega arith
 
 loop-again : tie.Need-loop-again Inv-loop μ-loop
+unfolding drivenOf
 loop-again c =
     let w = c .before .before in
     let a = w .before .before .args in

@@ -1,0 +1,16 @@
+use borrow.Author.Needs.{needs}
+use Rattle.laws.proofs.Rules.{cases}
+use Rattle.clock.specs.Eventless.{isEventless}
+use Rattle.clock.proofs.is_eventless.Statement.{statement}
+use Rattle.clock.proofs.is_eventless.Tie as tie
+
+pub is-eventless-spec : {M : Type 1} → statement M
+unfolding isEventless
+is-eventless-spec =
+    tie.close
+    (tie.spec
+    (λ c. search cases)
+    (λ c κs. search needs)
+    (λ c κs. search needs)
+    (λ c. search (cases, c .is-still .ensures, c .before .active-of .ensures))
+    (λ c. search cases))
