@@ -660,7 +660,7 @@ static void read_wish(const struct check *c, int first, struct wish *wish, struc
 {
     memset(w, 0, sizeof *w);
     for (int i = first; i < c->word_count; i++)
-        w->word[w->count++] = (char *)(uintptr_t)c->words[i];
+        w->word[w->count++] = (char *)c->words[i];
     sc.line = c->line;
     while (more(w)) {
         if (take_if(w, "unsound")) {
@@ -726,7 +726,7 @@ static void fresh_wish(struct wish *wish)
 
 static void lay_stream(uint8_t *bytes, uint32_t samples)
 {
-    for (uint32_t i = 0; i < samples; i++) {
+    for (size_t i = 0; i < samples; i++) {
         bytes[2 * i] = (uint8_t)sc.sample[i];
         bytes[2 * i + 1] = (uint8_t)(sc.sample[i] >> 8);
     }
@@ -743,7 +743,7 @@ static void check_view(const struct check *c, const struct lane_state *lane)
     read_wish(c, 1, &wish, &w);
     if (c->word_count < 1 || !number_of(c->words[0], 10, &block) || wish.want == NULL)
         bad_text(&w, "view");
-    if (w.bad)
+    if (w.bad || wish.want == NULL)
         return;
     if (wish.unsound)
         memset(&device, DEVICE_FILLER, sizeof device);

@@ -427,8 +427,8 @@ static void tick(uint16_t sample)
         return;
     last_samples[clock_number % 32] = sample;
     if (runnable) {
-        stream[2 * clock_number] = (uint8_t)sample;
-        stream[2 * clock_number + 1] = (uint8_t)(sample >> 8);
+        stream[(size_t)2 * clock_number] = (uint8_t)sample;
+        stream[(size_t)2 * clock_number + 1] = (uint8_t)(sample >> 8);
     }
 
     expect("number of the model", NUMBER_DONE, model_step(&model, model_image, IMAGE, sample, &answer));
@@ -1667,7 +1667,7 @@ static void restore(uint8_t *image, uint16_t blocks)
 {
     for (uint32_t b = 0; b < MODEL_BLOCKS; b++)
         if (blocks >> b & 1)
-            memcpy(image + b * BLOCK, base_image + b * BLOCK, BLOCK);
+            memcpy(image + (size_t)b * BLOCK, base_image + (size_t)b * BLOCK, BLOCK);
 }
 
 static void record_trace(void)
@@ -1704,7 +1704,7 @@ static void run_whole_trace(void)
         if (run_answers[i] != want) {
             for (clock_number = 0; clock_number <= i && clock_number < MAX_SAMPLES; clock_number++)
                 last_samples[clock_number % 32] =
-                    (uint16_t)(stream[2 * clock_number] | stream[2 * clock_number + 1] << 8);
+                    (uint16_t)(stream[(size_t)2 * clock_number] | stream[(size_t)2 * clock_number + 1] << 8);
             departure("answer of pod_run: expected %02Xh, found %02Xh", (unsigned)want, (unsigned)run_answers[i]);
         }
     }

@@ -22,8 +22,6 @@ static inline bool same_device(const struct pod_device *x, const struct pod_devi
 {
     const struct pod_controller *c = &x->controller, *d = &y->controller;
 
-    if (memcmp(x, y, sizeof *x) == 0)
-        return true;
     return x->straps == y->straps && memcmp(x->locks, y->locks, sizeof x->locks) == 0 &&
            same_times(&x->times, &y->times) && x->frame.kind == y->frame.kind && x->frame.clock == y->frame.clock &&
            x->frame.byte == y->frame.byte && x->frame.address == y->frame.address && c->mode == d->mode &&

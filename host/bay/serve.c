@@ -164,6 +164,8 @@ static const char *serve_client(struct server *server, int client)
     const char *why = link.why != NULL ? link.why : "the library refused";
     say("client %u ends after %s requests: %s; status %s\n", (unsigned)server->served, counted(serprog.requests).text,
         why, brief_status(pod_status(server->bench.device)).text);
+    serprog.link = NULL;
+    serprog.bench = NULL;
     return why;
 }
 

@@ -106,7 +106,7 @@ static int sheet_write(int count, char **words)
     };
     const struct place places[] = { { "SHEET", &path } };
     const struct line line = { options, sizeof options / sizeof options[0], places, 1 };
-    struct settings settings;
+    struct settings settings = { 0 };
     int status = options_take(&line, count, words);
     if (status == 0 && told != NULL && (from.straps != NULL || from.times != NULL)) {
         status = trouble(TROUBLE_USAGE, "--words does not go with --straps or --times\n"
