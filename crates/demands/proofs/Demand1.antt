@@ -18,7 +18,7 @@ use Rattle.clock.specs.Step.{stepNumber, steppedOf, storedOf}
 use Rattle.clock.specs.Fold.{world, repeated}
 use Rattle.settle.specs.Settle.{settling, isRestless, settleNumber, settledOf, imageSettled}
 use Rattle.settle.proofs.Least.{Least, least}
-use Rattle.walk.specs.Samples.{samples}
+use Rattle.glance.specs.Samples.{samples}
 use Rattle.stream.specs.Run.{overvolted, misshapen, runNumber, ranOf}
 use Rattle.sheet.specs.Sheet.{ofLayout, strapsIn, timesIn, readOf, writeOf}
 use Rattle.demands.specs.Demand1.{Call, powerUp, setTimes, step, settle, run, readSheet, writeSheet, stepInPlace, viewBlock, tellStatus, tellMarks, refusals, first, Outcome, outcome, asLent, Numbers, Refused, Ten, Coincide}

@@ -26,7 +26,7 @@ use Rattle.command.proofs.Kept.{View, ready, view}
 use Rattle.device.proofs.Laws.{powered-sound, power-0}
 use Rattle.operation.specs.Marks.{marked}
 use Rattle.clock.specs.Fold.{World, world, onward, through}
-use Rattle.walk.specs.Samples.{samples}
+use Rattle.glance.specs.Samples.{samples}
 use Rattle.stream.specs.Run.{overvolted, misshapen, runNumber, ranOf}
 use Rattle.demands.specs.History.{Event, clock, after, ending, powered, isThere, tellsNone, operations, contents, done, Demand3, Demand3Run}
 use Rattle.demands.proofs.Counting.{off-absent}

@@ -16,7 +16,7 @@ use Rattle.device.specs.Told.{statusTold, marksTold}
 use Rattle.clock.specs.Step.{steppedOf, storedOf}
 use Rattle.clock.specs.Fold.{world, repeated}
 use Rattle.settle.specs.Settle.{settling, isRestless, settledOf, imageSettled}
-use Rattle.walk.specs.Samples.{samples}
+use Rattle.glance.specs.Samples.{samples}
 use Rattle.stream.specs.Run.{overvolted, misshapen, ranOf}
 use Rattle.inplace.specs.Clocked.{clockedOf}
 use Rattle.view.specs.Shown.{shown, partShown}

@@ -16,7 +16,7 @@ use Rattle.device.specs.Power.{poweredUp, timesSet}
 use Rattle.operation.specs.Marks.{marked}
 use Rattle.clock.specs.Step.{steppedOf, storedOf}
 use Rattle.clock.specs.Fold.{World, world}
-use Rattle.walk.specs.Samples.{samples}
+use Rattle.glance.specs.Samples.{samples}
 use Rattle.stream.specs.Run.{ranOf}
 
 -- a history is any list of clocks and changes of times

@@ -12,9 +12,9 @@ use Rattle.units.specs.Units.{times, timesFit}
 use Rattle.record.specs.declared.Device.{Device}
 use Rattle.device.specs.Status.{statusOf}
 use Rattle.clock.specs.Fold.{world, through, answersTo}
-use Rattle.walk.specs.Samples.{samples}
+use Rattle.glance.specs.Samples.{samples}
 use Rattle.stream.specs.Run.{misshapen, runNumber, powered, report, ran, ranOf}
-use Rattle.walk.proofs.Turns.{samples-length}
+use Rattle.glance.proofs.Turns.{samples-length}
 
 pub record Accepted (image stream answers : List ℕ) (straps program slice pause : ℕ) : Type 0 where
   pub whole : length image ≡ 1048576

@@ -14,9 +14,9 @@ use Rattle.units.specs.Units.{times, timesFit}
 use Rattle.part.specs.Fresh.{freshOf}
 use Rattle.device.specs.Status.{conditionOf, statusOf}
 use Rattle.clock.specs.Fold.{World, onward, answersTo}
-use Rattle.walk.specs.Samples.{samples}
+use Rattle.glance.specs.Samples.{samples}
 use Rattle.stream.specs.Run.{misshapen, runNumber, powered, report, ran, reported, ranOf}
-use Rattle.walk.proofs.Turns.{samples-length}
+use Rattle.glance.proofs.Turns.{samples-length}
 use Rattle.stream.proofs.Doors.{refuses}
 
 -- an answer byte to each sample

@@ -7,8 +7,8 @@ use lib.Dec.{eqb}
 use lib.ListN.{length, drop}
 use Rattle.laws.proofs.Rules.{ask, yes, no}
 use Rattle.record.specs.Sample.{voltage}
-use Rattle.walk.specs.Samples.{samples, sampleAt}
-use Rattle.walk.proofs.Turns.{samples-cons}
+use Rattle.glance.specs.Samples.{samples, sampleAt}
+use Rattle.glance.proofs.Turns.{samples-cons}
 use Rattle.stream.specs.Run.{overvolted}
 
 pub over-turn : (s : List ℕ) (k : ℕ) (over : Bool) → 2 * k + 1 < length s

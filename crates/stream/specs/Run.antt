@@ -9,7 +9,7 @@ use Rattle.record.specs.Sample.{voltage}
 use Rattle.part.specs.Fresh.{freshOf}
 use Rattle.device.specs.Status.{statusOf}
 use Rattle.clock.specs.Fold.{World, world, through, answersTo}
-use Rattle.walk.specs.Samples.{samples}
+use Rattle.glance.specs.Samples.{samples}
 use Rattle.stream.specs.declared.Report.{Report}
 
 -- some sample has voltage class 3

@@ -1,14 +1,14 @@
 // Run: from power-up through a stream of samples.
 use device::status;
+use glance::sample_at;
 use part::Part;
 use record::Device;
 use units::are_times;
 use units::times_of;
-use walk::sample_at;
 use walk::walk;
 ghost use mathlib.Core.Path.{_≡_};
 ghost use mathlib.Core.Bool.{_||_};
-ghost use Rattle.walk.specs.Samples.{samples};
+ghost use Rattle.glance.specs.Samples.{samples};
 ghost use Rattle.stream.specs.Run.{overvolted, runNumber, ran, ranOf};
 
 // The numbered answer of a run, samples done, the status register and the spoiled marks.

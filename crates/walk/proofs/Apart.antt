@@ -19,7 +19,7 @@ use Rattle.access.specs.Write.{reachedOf}
 use Rattle.clock.specs.declared.Advanced.{Advanced}
 use Rattle.clock.specs.Clock.{isReset, withFrame, withByte, answeredTo, servedOf, replied, afterController, advancedOf, imageAfter}
 use Rattle.clock.specs.Fold.{world, onward, answerTo}
-use Rattle.walk.specs.Glance.{laterOf, worldAt}
+use Rattle.walk.specs.Walk.{laterOf, worldAt}
 
 module _ (d : Device) (image : List ℕ) where
   next : (n : ℕ) → countedOf (lapsed n (d .controller)) .controller ≡ lapsed (n + 1) (d .controller)

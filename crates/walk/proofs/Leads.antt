@@ -10,9 +10,10 @@ use lib.Seq.{length-take-le, take-at, drop-at, drop-drop}
 use Rattle.device.specs.Sound.{soundOf}
 use Rattle.clock.specs.Fold.{World, onward, answerTo, through, answersTo}
 use Rattle.clock.proofs.Kept.{advanced-sound}
-use Rattle.walk.specs.Samples.{sampleAt}
-use Rattle.walk.specs.Glance.{put, samplesFrom, Onto}
-use Rattle.walk.proofs.Turns.{samples-cons}
+use Rattle.glance.specs.Samples.{sampleAt}
+use Rattle.glance.specs.Glance.{put}
+use Rattle.walk.specs.Walk.{samplesFrom, Onto}
+use Rattle.glance.proofs.Turns.{samples-cons}
 
 -- at place m with world v all that is still to come goes as at place k with world w, the answers between being these bytes
 pub record Leads (s : List ℕ) (k : ℕ) (w : World) (m : ℕ) (v : World) (bytes : List ℕ) : Type 0 where

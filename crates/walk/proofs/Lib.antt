@@ -1,6 +1,5 @@
-pub mod Turns
-pub mod Looks
 pub mod Leads
 pub mod Apart
 pub mod Whole
 pub mod Steps
+pub mod Ends

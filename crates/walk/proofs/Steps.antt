@@ -22,8 +22,9 @@ use Rattle.access.specs.Write.{reachedOf}
 use Rattle.clock.specs.declared.Advanced.{Advanced}
 use Rattle.clock.specs.Clock.{isReset, advancedOf, imageAfter}
 use Rattle.clock.specs.Fold.{World, world, onward, answerTo}
-use Rattle.walk.specs.Samples.{sampleAt}
-use Rattle.walk.specs.Glance.{plain, addressAt, isOver, isResting, restOf, wholeOf, byteAt, readAnswers, laterOf, worldAt, put, Skipped, Onto}
+use Rattle.glance.specs.Samples.{sampleAt}
+use Rattle.glance.specs.Glance.{plain, addressAt, isOver, isResting, restOf, wholeOf, byteAt, readAnswers, put, Skipped}
+use Rattle.walk.specs.Walk.{laterOf, worldAt, Onto}
 use Rattle.walk.proofs.Leads.{one, lands, onward-onto}
 use Rattle.walk.proofs.Apart.{silent, silent-answer}
 use Rattle.walk.proofs.Whole.{whole-room, whole-read, whole-write, resting}

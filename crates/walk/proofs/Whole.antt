@@ -22,8 +22,9 @@ use Rattle.access.specs.Write.{reachedOf}
 use Rattle.clock.specs.Clock.{isReset}
 use Rattle.clock.proofs.Eventless.{idle-silent}
 use Rattle.clock.specs.Fold.{world}
-use Rattle.walk.specs.Samples.{sampleAt}
-use Rattle.walk.specs.Glance.{plain, allPlain, addressOver, addressAt, isOver, restOf, wholeOf, byteAt, readAnswers, laterOf, worldAt}
+use Rattle.glance.specs.Samples.{sampleAt}
+use Rattle.glance.specs.Glance.{plain, allPlain, addressOver, addressAt, isOver, restOf, wholeOf, byteAt, readAnswers}
+use Rattle.walk.specs.Walk.{laterOf, worldAt}
 use Rattle.walk.proofs.Leads.{Leads, none, one, join}
 use Rattle.walk.proofs.Apart.{silent, silent-answer, reads, reads-answer, writes, writes-answer}
 

@@ -5,9 +5,9 @@ use mathlib.Core.Path.{_≡_, _∙_, sym, refl}
 use mathlib.Core.Bool.{_||_}
 use native.Mathlib.Omega.{arith}
 use lib.ListN.{drop}
-use Rattle.walk.specs.Samples.{samples}
+use Rattle.glance.specs.Samples.{samples}
 use Rattle.stream.specs.Run.{overvolted}
-use Rattle.walk.proofs.Turns.{samples-end}
+use Rattle.glance.proofs.Turns.{samples-end}
 use Rattle.stream.proofs.Turns.{over-turn, over-end}
 use Rattle.stream.proofs.is_overvolted.Statement.{statement}
 use Rattle.stream.proofs.is_overvolted.Tie as tie

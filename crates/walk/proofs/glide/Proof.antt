@@ -6,7 +6,7 @@ use native.Mathlib.Omega.{arith}
 use lib.ListN.{length, length-set}
 use Rattle.device.proofs.Clauses.{parts}
 use Rattle.clock.specs.Fold.{world}
-use Rattle.walk.specs.Glance.{worldAt, Onto}
+use Rattle.walk.specs.Walk.{worldAt, Onto}
 use Rattle.walk.proofs.Leads.{stays}
 use Rattle.walk.proofs.Whole.{whole-room}
 use Rattle.walk.proofs.Steps.{over, rest-step, bus-step, read-step}

@@ -7,8 +7,9 @@ use native.Mathlib.Omega.{arith}
 use lib.ListN.{length}
 use Rattle.device.specs.Sound.{soundOf}
 use Rattle.clock.specs.Fold.{world}
-use Rattle.walk.specs.Glance.{Onto}
-use Rattle.walk.proofs.Turns.{samples-end, answers-end}
+use Rattle.walk.specs.Walk.{Onto}
+use Rattle.glance.proofs.Turns.{samples-end}
+use Rattle.walk.proofs.Ends.{answers-end}
 use Rattle.walk.proofs.Leads.{stays, onward-onto}
 use Rattle.walk.proofs.walk.Statement.{statement}
 use Rattle.walk.proofs.walk.Tie as tie
