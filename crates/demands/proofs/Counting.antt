@@ -228,50 +228,34 @@ elsewhere b c d o p h e e' t q f n x y l =
     kept (yes a) z = rw (absent-rest p (applied (tickedOf o .effect) d) a, absent-rest p d a) z
     kept (no a) z = contents-rest b p (applied (tickedOf o .effect) d) h (q a .0) (q a .1) (size o d f l) ∙ ap (restIn p) z ∙ sym (contents-rest b p d h (q a .0) (q a .1) l)
 
--- with no program inside, the outer operation is the one that counts
-module _ (c : Controller) (i : isAbsent (c .inner) ≡ true) where
-  outer-active : active c ≡ c .outer
-  unfolding active
-  outer-active = rw i
+-- the operation that counts, and the one beside it: with no program inside the outer and the inner, else the other way
+abbrev own : Bool → Controller → Operation
+own true c = c .outer
+own false c = c .inner
 
-  module _ (m : isStill (c .outer) ≡ false) where
-    outer-next : countedOf c .controller .outer ≡ tickedOf (c .outer) .operation
-    unfolding countedOf replaced
-    outer-next = rw (outer-active, m, i)
+abbrev beside : Bool → Controller → Operation
+beside true c = c .inner
+beside false c = c .outer
 
-    outer-side : countedOf c .controller .inner ≡ c .inner
-    unfolding countedOf replaced
-    outer-side = rw (outer-active, m, i)
+active-own : (t : Bool) (c : Controller) → isAbsent (c .inner) ≡ t → active c ≡ own t c
+unfolding active
+active-own true c i = rw i
+active-own false c i = rw i
 
-    outer-effect : countedOf c .effect ≡ tickedOf (c .outer) .effect
-    unfolding countedOf
-    outer-effect = rw (outer-active, m)
+record Turn (t : Bool) (c : Controller) : Type 0 where
+  next : own t (countedOf c .controller) ≡ tickedOf (own t c) .operation
+  side : beside t (countedOf c .controller) ≡ beside t c
+  effect : countedOf c .effect ≡ tickedOf (own t c) .effect
+  marks : countedOf c .controller .marks ≡ marksAfter (c .marks) (own t c) (tickedOf (own t c) .finished)
 
-    outer-marks : countedOf c .controller .marks ≡ marksAfter (c .marks) (c .outer) (tickedOf (c .outer) .finished)
-    unfolding countedOf replaced
-    outer-marks = rw (outer-active, m, i)
-
-module _ (c : Controller) (i : isAbsent (c .inner) ≡ false) where
-  inner-active : active c ≡ c .inner
-  unfolding active
-  inner-active = rw i
-
-  module _ (m : isStill (c .inner) ≡ false) where
-    inner-next : countedOf c .controller .inner ≡ tickedOf (c .inner) .operation
-    unfolding countedOf replaced
-    inner-next = rw (inner-active, m, i)
-
-    inner-side : countedOf c .controller .outer ≡ c .outer
-    unfolding countedOf replaced
-    inner-side = rw (inner-active, m, i)
-
-    inner-effect : countedOf c .effect ≡ tickedOf (c .inner) .effect
-    unfolding countedOf
-    inner-effect = rw (inner-active, m)
-
-    inner-marks : countedOf c .controller .marks ≡ marksAfter (c .marks) (c .inner) (tickedOf (c .inner) .finished)
-    unfolding countedOf replaced
-    inner-marks = rw (inner-active, m, i)
+turn : (t : Bool) (c : Controller) → isAbsent (c .inner) ≡ t → isStill (own t c) ≡ false → Turn t c
+unfolding countedOf replaced
+turn true c i m =
+    let a = active-own true c i in
+    record { next = rw (a, m, i); side = rw (a, m, i); effect = rw (a, m); marks = rw (a, m, i) }
+turn false c i m =
+    let a = active-own false c i in
+    record { next = rw (a, m, i); side = rw (a, m, i); effect = rw (a, m); marks = rw (a, m, i) }
 
 -- nothing counts
 resting-on : (b : ℕ) (c : Controller) (d : List ℕ) → isStill (active c) ≡ true → isLast (opOf b c) ≡ false → Counting b c d
@@ -329,19 +313,19 @@ alone b c d h e l i = pick (ask (isStill (c .outer))) (ask (isOn b (c .outer)))
     gone-off (on t q n) x = like-on b (c .outer) (tickedOf (c .outer) .operation) n ∙ x
 
     pick : Answer (isStill (c .outer)) → Answer (isOn b (c .outer)) → Counting b c d
-    pick (yes m) x = resting-on b c d (rw (outer-active c i) m) (quiet m x)
+    pick (yes m) x = resting-on b c d (rw (active-own true c i) m) (quiet m x)
     pick (no m) (yes x) =
         let f = outer-fits c e (moving (c .outer) m) in
-        turning b c d (c .outer) (on-outer b c x) (moving (c .outer) m) f m (rw (outer-active c i) m) (outer-effect c i m) (outer-marks c i m)
-        (λ g. on-none b (countedOf c .controller) (rw (outer-next c i m, g) (off-none b)) (rw (outer-side c i m) side))
-        (λ k. on-outer b (countedOf c .controller) (rw (outer-next c i m) (like-on b (c .outer) _ k ∙ x)) ∙ outer-next c i m)
+        turning b c d (c .outer) (on-outer b c x) (moving (c .outer) m) f m (rw (active-own true c i) m) (turn true c i m .effect) (turn true c i m .marks)
+        (λ g. on-none b (countedOf c .controller) (rw (turn true c i m .next, g) (off-none b)) (rw (turn true c i m .side) side))
+        (λ k. on-outer b (countedOf c .controller) (rw (turn true c i m .next) (like-on b (c .outer) _ k ∙ x)) ∙ turn true c i m .next)
         l
     pick (no m) (no x) =
         let a = moving (c .outer) m in
         let f = outer-fits c e a in
         elsewhere b c d (c .outer) absent h (on-none b c x side)
-        (on-none b (countedOf c .controller) (rw (outer-next c i m) (gone-off (tick (c .outer) m) x)) (rw (outer-side c i m) side))
-        absent-last (λ z. clash (sym z)) f (off-there b (c .outer) a x) (outer-effect c i m) (outer-marks c i m) l
+        (on-none b (countedOf c .controller) (rw (turn true c i m .next) (gone-off (tick (c .outer) m) x)) (rw (turn true c i m .side) side))
+        absent-last (λ z. clash (sym z)) f (off-there b (c .outer) a x) (turn true c i m .effect) (turn true c i m .marks) l
 
 -- a clock with one
 inside-erase : (b : ℕ) (c : Controller) (d : List ℕ)
@@ -367,18 +351,18 @@ inside-erase b c d h e l i = pick (ask (isOn b (c .outer))) (ask (isOn b (c .inn
         let f = outer-fits c e (n .there) in
         let k = on-here b (c .outer) x .1 in
         elsewhere b c d (c .inner) (c .outer) h (on-outer b c x)
-        (on-outer b (countedOf c .controller) (rw (inner-side c i m) x) ∙ inner-side c i m)
+        (on-outer b (countedOf c .controller) (rw (turn false c i m .side) x) ∙ turn false c i m .side)
         (suspended-last (c .outer) (n .there) (n .rests)) (λ z. (f, k)) (n .sound) (λ z. n .apart-from (k ∙ z))
-        (inner-effect c i m) (inner-marks c i m) l
+        (turn false c i m .effect) (turn false c i m .marks) l
     pick (no x) (yes y) =
-        turning b c d (c .inner) (on-inner b c x y) i (n .sound) m (rw (inner-active c i) m) (inner-effect c i m) (inner-marks c i m)
-        (λ g. on-none b (countedOf c .controller) (rw (inner-side c i m) x) (rw (inner-next c i m, g) (off-none b)))
-        (λ k. on-inner b (countedOf c .controller) (rw (inner-side c i m) x) (rw (inner-next c i m) (like-on b (c .inner) _ k ∙ y)) ∙ inner-next c i m)
+        turning b c d (c .inner) (on-inner b c x y) i (n .sound) m (rw (active-own false c i) m) (turn false c i m .effect) (turn false c i m .marks)
+        (λ g. on-none b (countedOf c .controller) (rw (turn false c i m .side) x) (rw (turn false c i m .next, g) (off-none b)))
+        (λ k. on-inner b (countedOf c .controller) (rw (turn false c i m .side) x) (rw (turn false c i m .next) (like-on b (c .inner) _ k ∙ y)) ∙ turn false c i m .next)
         l
     pick (no x) (no y) =
         elsewhere b c d (c .inner) absent h (on-none b c x y)
-        (on-none b (countedOf c .controller) (rw (inner-side c i m) x) (rw (inner-next c i m) (gone-off (tick (c .inner) m) y)))
-        absent-last (λ z. clash (sym z)) (n .sound) (off-there b (c .inner) i y) (inner-effect c i m) (inner-marks c i m) l
+        (on-none b (countedOf c .controller) (rw (turn false c i m .side) x) (rw (turn false c i m .next) (gone-off (tick (c .inner) m) y)))
+        absent-last (λ z. clash (sym z)) (n .sound) (off-there b (c .inner) i y) (turn false c i m .effect) (turn false c i m .marks) l
 
 pub counting : (b : ℕ) (c : Controller) (d : List ℕ) → b < 16 → controllerFits c ≡ true → length d ≡ 1048576 → Counting b c d
 counting b c d h e l = pick (ask (isAbsent (c .inner)))

@@ -5,8 +5,10 @@ use mathlib.Core.List.{List, [], _∷_}
 use Prim.Native.Nat.{ℕ, suc, _+_, _-_, _*_, _<_, _≤_}
 use native.Mathlib.Numerals.{add-one}
 use native.Mathlib.Omega.{arith}
+use lib.Dec.{ltb}
 use lib.ListN.{length, getD, set, take, drop, replicate, length-replicate}
 use lib.Seq.{set-split, append-snoc}
+use borrow.Author.Tests.{ltb-true, ltb-false}
 use Rattle.laws.proofs.Rules.{ask, yes, no, clash}
 use Rattle.record.specs.declared.Frame.{Frame}
 use Rattle.record.specs.declared.Device.{Device}
@@ -24,7 +26,7 @@ use Rattle.clock.specs.Clock.{isReset, advancedOf, imageAfter}
 use Rattle.clock.specs.Fold.{World, world, onward, answerTo}
 use Rattle.glance.specs.Samples.{sampleAt}
 use Rattle.glance.specs.Glance.{plain, addressAt, isOver, isResting, restOf, wholeOf, byteAt, readAnswers, put, Skipped}
-use Rattle.walk.specs.Walk.{laterOf, worldAt, Onto}
+use Rattle.walk.specs.Walk.{lesser, laterOf, worldAt, Onto}
 use Rattle.walk.proofs.Leads.{one, lands, onward-onto}
 use Rattle.walk.proofs.Apart.{silent, silent-answer}
 use Rattle.walk.proofs.Whole.{whole-room, whole-read, whole-write, resting}
@@ -39,6 +41,19 @@ put-set b k y h = set-split b k y h ∙ sym (append-snoc (take k b) y (drop (suc
 
 put-filled : (b : List ℕ) (k n : ℕ) → filled b k n 0 ≡ put b k (replicate n 0)
 put-filled b k n = rw length-replicate
+
+-- the lesser of two is at most either
+pub at-most : (a b r : ℕ) → r ≡ lesser a b → (r ≤ a) × (r ≤ b)
+unfolding lesser
+at-most a b r e =
+    elim (ask (ltb a b)) [
+      | yes t ↦
+          let h = ltb-true a b t in
+          let x : r ≡ a = rw t at e in (omega arith, omega arith)
+      | no t ↦
+          let h = ltb-false a b t in
+          let x : r ≡ b = rw t at e in (omega arith, omega arith)
+    ]
 
 -- what a read finds, while nothing is due
 found : (n : ℕ) (f : Frame) (d : Device) (x address byte : ℕ)

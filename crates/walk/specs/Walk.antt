@@ -1,8 +1,9 @@
 -- How far a walk through a stream has come. Assumes nothing.
 use Prim.Native.Nat.{ℕ, _*_, _≤_}
 use mathlib.Core.Path.{_≡_}
-use mathlib.Core.Bool.{true}
+use mathlib.Core.Bool.{true, cond}
 use mathlib.Core.List.{List, _++_}
+use lib.Dec.{ltb}
 use lib.ListN.{length, take, drop}
 use Rattle.record.specs.declared.Frame.{Frame}
 use Rattle.record.specs.declared.Device.{Device}
@@ -11,6 +12,10 @@ use Rattle.device.specs.Sound.{soundOf}
 use Rattle.lapse.specs.Lapse.{lapsed, lapsedImage}
 use Rattle.clock.specs.Fold.{World, world, through, answersTo}
 use Rattle.glance.specs.Samples.{samples}
+
+-- the lesser of two numbers
+unfoldable pub lesser : ℕ → ℕ → ℕ
+lesser a b = cond (ltb a b) a b
 
 -- a device n clocks later with another frame, nothing having been said to its controller
 abbrev pub laterOf : ℕ → Frame → Device → Device

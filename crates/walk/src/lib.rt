@@ -32,7 +32,7 @@ ghost use Rattle.device.specs.Sound.{soundOf};
 ghost use Rattle.lapse.specs.Lapse.{lapsedImage, quietOf};
 ghost use Rattle.clock.specs.Fold.{world, through, answersTo};
 ghost use Rattle.glance.specs.Samples.{samples};
-ghost use Rattle.walk.specs.Walk.{laterOf, worldAt, Onto};
+ghost use Rattle.walk.specs.Walk.{lesser, laterOf, worldAt, Onto};
 
 // How far the bus has come alone: the place of the next sample, and the frame then.
 struct Glided {
@@ -130,7 +130,7 @@ fn later(d: Device, image: &mut [u8], f: Frame, n: u32) -> Device
 
 // The lesser of two.
 fn least(a: usize, b: usize) -> usize
-    ensures { λ r. ⌜ (r ≤ a) × (r ≤ b) ⌝ }
+    ensures { λ r. ⌜ r ≡ lesser a b ⌝ }
 {
     if a < b {
         return a;

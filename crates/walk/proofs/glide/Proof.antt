@@ -49,8 +49,6 @@ rest-requires c κs = tt
 
 loop-less : tie.Need-loop-less Inv-loop μ-loop
 loop-less c =
-    let w = c .before .before .before .before .before .before .before .before .before in
-    let z = w .before .before .before .before .before in
     let x = c .before .before .before .skip .ensures in
     omega (arith, x .0, x .1)
 

@@ -6,7 +6,7 @@ use native.Mathlib.Omega.{arith}
 use lib.ListN.{length-set}
 use Rattle.device.proofs.Clauses.{parts}
 use Rattle.walk.proofs.Whole.{whole-room}
-use Rattle.walk.proofs.Steps.{over, rest-step, write-step, clock-step, moved, replied}
+use Rattle.walk.proofs.Steps.{at-most, over, rest-step, write-step, clock-step, moved, replied}
 use Rattle.walk.proofs.turn.Statement.{statement}
 use Rattle.walk.proofs.turn.Tie as tie
 
@@ -27,13 +27,13 @@ least-requires c κs = tt
 add-glide : tie.Need-add-glide
 add-glide c =
     let z = c .before .before .before .before .before .before .before .before in
-    let l = c .least .ensures in
+    let l = at-most _ _ _ (c .least .ensures) in
     omega (arith, l .0, z .pre .1 .1 .0, z .good)
 
 glide-requires : tie.Need-glide-requires
 glide-requires c κs =
     let z = c .before .before .before .before .before .before .before .before in
-    let l = c .least .ensures in
+    let l = at-most _ _ _ (c .least .ensures) in
     let k = z .args .k in
     let m : k + c .least .result - k ≤ c .before .before .before .quiet .result = omega (arith, l .1) in
     (z .pre .0, (z .pre .1 .0, (omega arith, (omega (arith, l .0, z .pre .1 .1 .0, z .pre .1 .1 .1 .0), (omega (arith, l .0, z .pre .1 .1 .0, z .pre .1 .1 .1 .1 .0), rw (c .before .before .before .quiet .ensures) at m)))))
@@ -42,9 +42,6 @@ sample-at-requires : tie.Need-sample-at-requires
 sample-at-requires c κs =
     let g = c .before .before .before .before in
     let z = g .before .before .before .before .before .before .before .before .before in
-    let o = g .glide .ensures .1 in
-    let l = g .before .least .ensures in
-    let t = g .glide .ensures .0 in
     omega (arith, c .if1 .taken, z .pre .1 .1 .1 .0)
 
 is-resting-requires : tie.Need-is-resting-requires
@@ -55,8 +52,6 @@ skip-requires c κs =
     let g = c .before .before .before .before .before .before .before .before in
     let z = g .before .before .before .before .before .before .before .before .before in
     let o = g .glide .ensures .1 in
-    let l = g .before .least .ensures in
-    let t = g .glide .ensures .0 in
     let e = rw (c .before .before .before .sample-at .ensures) at (sym (c .before .before .is-resting .ensures) ∙ c .before .if2 .taken) in
     (omega (arith, c .before .before .before .before .if1 .taken), (z .pre .1 .1 .1 .0, (omega (arith, o .size, z .pre .1 .1 .1 .1 .0), over _ _ e .0)))
 
@@ -66,10 +61,7 @@ rest-requires c κs = tt
 sub-later : tie.Need-sub-later
 sub-later c =
     let g = c .before .before .before .before .before .before .before .before .before .before .before .before .before in
-    let z = g .before .before .before .before .before .before .before .before .before in
     let o = g .glide .ensures .1 in
-    let l = g .before .least .ensures in
-    let t = g .glide .ensures .0 in
     let x = c .before .before .before .before .skip .ensures in
     omega (arith, x .0, o .forward)
 
@@ -77,9 +69,6 @@ cast-later : tie.Need-cast-later
 cast-later c =
     let g = c .before .before .before .before .before .before .before .before .before .before .before .before .before in
     let z = g .before .before .before .before .before .before .before .before .before in
-    let o = g .glide .ensures .1 in
-    let l = g .before .least .ensures in
-    let t = g .glide .ensures .0 in
     let x = c .before .before .before .before .skip .ensures in
     omega (arith, x .1, z .pre .1 .1 .1 .1 .1)
 
@@ -94,10 +83,7 @@ same-length c = omega (arith, c .before .before .later .kept .1 .0)
 same-length-2 : tie.Need-same-length-2
 same-length-2 c =
     let g = c .before .before .before .before .before .before .before .before .before .before .before .before .before .before .before .before in
-    let z = g .before .before .before .before .before .before .before .before .before in
     let o = g .glide .ensures .1 in
-    let l = g .before .least .ensures in
-    let t = g .glide .ensures .0 in
     omega (arith, c .before .before .before .before .before .before .before .skip .kept .1 .0, o .size)
 
 returns : tie.Need-returns
@@ -105,8 +91,6 @@ returns c =
     let g = c .before .before .before .before .before .before .before .before .before .before .before .before .before .before .before .before in
     let z = g .before .before .before .before .before .before .before .before .before in
     let o = g .glide .ensures .1 in
-    let l = g .before .least .ensures in
-    let t = g .glide .ensures .0 in
     let e = rw (c .before .before .before .before .before .before .before .before .before .before .before .sample-at .ensures) at (sym (c .before .before .before .before .before .before .before .before .before .before .is-resting .ensures) ∙ c .before .before .before .before .before .before .before .before .before .if2 .taken) in
     let x = c .before .before .before .before .before .before .before .skip .ensures in
     let q = c .before .before .later .ensures in
@@ -117,18 +101,12 @@ is-whole-requires : tie.Need-is-whole-requires
 is-whole-requires c κs =
     let g = c .before .before .before .before .before .before .before in
     let z = g .before .before .before .before .before .before .before .before .before in
-    let o = g .glide .ensures .1 in
-    let l = g .before .least .ensures in
-    let t = g .glide .ensures .0 in
     (omega (arith, c .before .before .before .if1 .taken), (z .pre .1 .1 .1 .0, (omega arith, omega arith)))
 
 byte-at-requires : tie.Need-byte-at-requires
 byte-at-requires c κs =
     let g = c .before .before .before .before .before .before .before .before .before in
     let z = g .before .before .before .before .before .before .before .before .before in
-    let o = g .glide .ensures .1 in
-    let l = g .before .least .ensures in
-    let t = g .glide .ensures .0 in
     let v = sym (c .before .is-whole .ensures) ∙ c .if3 .taken in
     let h = whole-room _ _ _ _ _ _ v in
     omega (arith, h, z .pre .1 .1 .1 .0)
@@ -137,9 +115,6 @@ add-address-at : tie.Need-add-address-at
 add-address-at c =
     let g = c .before .before .before .before .before .before .before .before .before .before in
     let z = g .before .before .before .before .before .before .before .before .before in
-    let o = g .glide .ensures .1 in
-    let l = g .before .least .ensures in
-    let t = g .glide .ensures .0 in
     let v = sym (c .before .before .is-whole .ensures) ∙ c .before .if3 .taken in
     let h = whole-room _ _ _ _ _ _ v in
     omega (arith, h, z .pre .1 .1 .1 .1 .1)
@@ -148,9 +123,6 @@ address-at-requires : tie.Need-address-at-requires
 address-at-requires c κs =
     let g = c .before .before .before .before .before .before .before .before .before .before in
     let z = g .before .before .before .before .before .before .before .before .before in
-    let o = g .glide .ensures .1 in
-    let l = g .before .least .ensures in
-    let t = g .glide .ensures .0 in
     let v = sym (c .before .before .is-whole .ensures) ∙ c .before .if3 .taken in
     let h = whole-room _ _ _ _ _ _ v in
     omega (arith, h, z .pre .1 .1 .1 .0)
@@ -159,9 +131,6 @@ add-later : tie.Need-add-later
 add-later c =
     let g = c .before .before .before .before .before .before .before .before .before .before .before .before in
     let z = g .before .before .before .before .before .before .before .before .before in
-    let o = g .glide .ensures .1 in
-    let l = g .before .least .ensures in
-    let t = g .glide .ensures .0 in
     let v = sym (c .before .before .before .before .is-whole .ensures) ∙ c .before .before .before .if3 .taken in
     let h = whole-room _ _ _ _ _ _ v in
     omega (arith, h, z .pre .1 .1 .1 .1 .1)
@@ -169,19 +138,13 @@ add-later c =
 sub-later-2 : tie.Need-sub-later-2
 sub-later-2 c =
     let g = c .before .before .before .before .before .before .before .before .before .before .before .before in
-    let z = g .before .before .before .before .before .before .before .before .before in
     let o = g .glide .ensures .1 in
-    let l = g .before .least .ensures in
-    let t = g .glide .ensures .0 in
     omega (arith, o .forward)
 
 cast-later-2 : tie.Need-cast-later-2
 cast-later-2 c =
     let g = c .before .before .before .before .before .before .before .before .before .before .before .before in
     let z = g .before .before .before .before .before .before .before .before .before in
-    let o = g .glide .ensures .1 in
-    let l = g .before .least .ensures in
-    let t = g .glide .ensures .0 in
     let v = sym (c .before .before .before .before .is-whole .ensures) ∙ c .before .before .before .if3 .taken in
     let h = whole-room _ _ _ _ _ _ v in
     omega (arith, h, z .pre .1 .1 .1 .1 .1)
@@ -195,9 +158,6 @@ add-sample-at : tie.Need-add-sample-at
 add-sample-at c =
     let g = c .before .before .before .before .before .before .before .before .before .before .before .before .before .before .before in
     let z = g .before .before .before .before .before .before .before .before .before in
-    let o = g .glide .ensures .1 in
-    let l = g .before .least .ensures in
-    let t = g .glide .ensures .0 in
     let v = sym (c .before .before .before .before .before .before .before .is-whole .ensures) ∙ c .before .before .before .before .before .before .if3 .taken in
     let h = whole-room _ _ _ _ _ _ v in
     omega (arith, h, z .pre .1 .1 .1 .1 .1)
@@ -206,9 +166,6 @@ sample-at-requires-2 : tie.Need-sample-at-requires-2
 sample-at-requires-2 c κs =
     let g = c .before .before .before .before .before .before .before .before .before .before .before .before .before .before .before in
     let z = g .before .before .before .before .before .before .before .before .before in
-    let o = g .glide .ensures .1 in
-    let l = g .before .least .ensures in
-    let t = g .glide .ensures .0 in
     let v = sym (c .before .before .before .before .before .before .before .is-whole .ensures) ∙ c .before .before .before .before .before .before .if3 .taken in
     let h = whole-room _ _ _ _ _ _ v in
     omega (arith, h, z .pre .1 .1 .1 .0)
@@ -221,8 +178,6 @@ fill-requires c κs =
     let g = c .before .before .before .before .before .before .before .before .before .before .before .before .before .before .before .before .before .before .before in
     let z = g .before .before .before .before .before .before .before .before .before in
     let o = g .glide .ensures .1 in
-    let l = g .before .least .ensures in
-    let t = g .glide .ensures .0 in
     let v = sym (c .before .before .before .before .before .before .before .before .before .before .before .is-whole .ensures) ∙ c .before .before .before .before .before .before .before .before .before .before .if3 .taken in
     let h = whole-room _ _ _ _ _ _ v in
     omega (arith, h, o .size, z .pre .1 .1 .1 .1 .0)
@@ -231,9 +186,6 @@ add-t45 : tie.Need-add-t45
 add-t45 c =
     let g = c .before .before .before .before .before .before .before .before .before .before .before .before .before .before .before .before .before .before .before .before .before .before in
     let z = g .before .before .before .before .before .before .before .before .before in
-    let o = g .glide .ensures .1 in
-    let l = g .before .least .ensures in
-    let t = g .glide .ensures .0 in
     let v = sym (c .before .before .before .before .before .before .before .before .before .before .before .before .before .before .is-whole .ensures) ∙ c .before .before .before .before .before .before .before .before .before .before .before .before .before .if3 .taken in
     let h = whole-room _ _ _ _ _ _ v in
     omega (arith, h, z .pre .1 .1 .1 .1 .1)
@@ -244,10 +196,7 @@ same-length-3 c = omega (arith, c .before .before .before .before .before .befor
 same-length-4 : tie.Need-same-length-4
 same-length-4 c =
     let g = c .before .before .before .before .before .before .before .before .before .before .before .before .before .before .before .before .before .before .before .before .before .before in
-    let z = g .before .before .before .before .before .before .before .before .before in
     let o = g .glide .ensures .1 in
-    let l = g .before .least .ensures in
-    let t = g .glide .ensures .0 in
     omega (arith, c .before .before .fill .kept .0, o .size)
 
 returns-2 : tie.Need-returns-2
@@ -255,8 +204,6 @@ returns-2 c =
     let g = c .before .before .before .before .before .before .before .before .before .before .before .before .before .before .before .before .before .before .before .before .before .before in
     let z = g .before .before .before .before .before .before .before .before .before in
     let o = g .glide .ensures .1 in
-    let l = g .before .least .ensures in
-    let t = g .glide .ensures .0 in
     let v = sym (c .before .before .before .before .before .before .before .before .before .before .before .before .before .before .is-whole .ensures) ∙ c .before .before .before .before .before .before .before .before .before .before .before .before .before .if3 .taken in
     let h = whole-room _ _ _ _ _ _ v in
     let q = c .before .before .before .before .before .before .before .before .before .later2 .ensures in
@@ -267,19 +214,13 @@ returns-2 c =
 sub-later-3 : tie.Need-sub-later-3
 sub-later-3 c =
     let g = c .before .before .before .before .before .before .before .before .before .before in
-    let z = g .before .before .before .before .before .before .before .before .before in
     let o = g .glide .ensures .1 in
-    let l = g .before .least .ensures in
-    let t = g .glide .ensures .0 in
     omega (arith, o .forward)
 
 cast-later-3 : tie.Need-cast-later-3
 cast-later-3 c =
     let g = c .before .before .before .before .before .before .before .before .before .before in
     let z = g .before .before .before .before .before .before .before .before .before in
-    let o = g .glide .ensures .1 in
-    let l = g .before .least .ensures in
-    let t = g .glide .ensures .0 in
     omega (arith, c .before .before .before .before .before .before .if1 .taken, z .pre .1 .1 .1 .1 .1)
 
 later-requires-3 : tie.Need-later-requires-3
@@ -292,8 +233,6 @@ advance-requires c κs =
     let g = c .before .before .before .before .before .before .before .before .before .before .before .before .before .before in
     let z = g .before .before .before .before .before .before .before .before .before in
     let o = g .glide .ensures .1 in
-    let l = g .before .least .ensures in
-    let t = g .glide .ensures .0 in
     let q = c .before .before .before .later3 .ensures in
     (rw (q .0) (o .kept (z .pre .0)), omega (arith, c .before .before .before .later3 .kept .1 .0, z .pre .1 .0))
 
@@ -302,17 +241,12 @@ slice-write-answers c =
     let g = c .before .before .before .before .before .before .before .before .before .before .before .before .before .before .before .before .before .before in
     let z = g .before .before .before .before .before .before .before .before .before in
     let o = g .glide .ensures .1 in
-    let l = g .before .least .ensures in
-    let t = g .glide .ensures .0 in
     omega (arith, c .before .before .before .before .before .before .before .before .before .before .before .before .before .before .if1 .taken, o .size, z .pre .1 .1 .1 .1 .0)
 
 add-t53 : tie.Need-add-t53
 add-t53 c =
     let g = c .before .before .before .before .before .before .before .before .before .before .before .before .before .before .before .before .before .before in
     let z = g .before .before .before .before .before .before .before .before .before in
-    let o = g .glide .ensures .1 in
-    let l = g .before .least .ensures in
-    let t = g .glide .ensures .0 in
     omega (arith, c .before .before .before .before .before .before .before .before .before .before .before .before .before .before .if1 .taken, z .pre .1 .1 .1 .1 .1)
 
 same-length-5 : tie.Need-same-length-5
@@ -321,10 +255,7 @@ same-length-5 c = omega (arith, c .before .before .before .before .before .befor
 same-length-6 : tie.Need-same-length-6
 same-length-6 c =
     let g = c .before .before .before .before .before .before .before .before .before .before .before .before .before .before .before .before .before .before in
-    let z = g .before .before .before .before .before .before .before .before .before in
     let o = g .glide .ensures .1 in
-    let l = g .before .least .ensures in
-    let t = g .glide .ensures .0 in
     simp length-set (o .size)
 
 returns-3 : tie.Need-returns-3
@@ -332,8 +263,6 @@ returns-3 c =
     let g = c .before .before .before .before .before .before .before .before .before .before .before .before .before .before .before .before .before .before in
     let z = g .before .before .before .before .before .before .before .before .before in
     let o = g .glide .ensures .1 in
-    let l = g .before .least .ensures in
-    let t = g .glide .ensures .0 in
     let q = c .before .before .before .before .before .before .before .later3 .ensures in
     let i = c .before .before .before .before .before .before .before .before .before .before .before .before .before .before .if1 .taken in
     let a = rw (q .0, q .1) at (c .before .before .before .advance .ensures) in
@@ -343,10 +272,7 @@ returns-3 c =
 sub-later-4 : tie.Need-sub-later-4
 sub-later-4 c =
     let g = c .before .before .before .before .before in
-    let z = g .before .before .before .before .before .before .before .before .before in
     let o = g .glide .ensures .1 in
-    let l = g .before .least .ensures in
-    let t = g .glide .ensures .0 in
     omega (arith, o .forward)
 
 cast-later-4 : tie.Need-cast-later-4
@@ -354,7 +280,7 @@ cast-later-4 c =
     let g = c .before .before .before .before .before in
     let z = g .before .before .before .before .before .before .before .before .before in
     let o = g .glide .ensures .1 in
-    let l = g .before .least .ensures in
+    let l = at-most _ _ _ (g .before .least .ensures) in
     let t = g .glide .ensures .0 in
     omega (arith, o .forward, t, l .0, l .1, z .pre .1 .1 .0, z .pre .1 .1 .1 .1 .1)
 
@@ -369,10 +295,7 @@ same-length-7 c = omega (arith, c .before .before .later4 .kept .1 .0)
 same-length-8 : tie.Need-same-length-8
 same-length-8 c =
     let g = c .before .before .before .before .before .before .before .before in
-    let z = g .before .before .before .before .before .before .before .before .before in
     let o = g .glide .ensures .1 in
-    let l = g .before .least .ensures in
-    let t = g .glide .ensures .0 in
     o .size
 
 returns-4 : tie.Need-returns-4
@@ -380,7 +303,7 @@ returns-4 c =
     let g = c .before .before .before .before .before .before .before .before in
     let z = g .before .before .before .before .before .before .before .before .before in
     let o = g .glide .ensures .1 in
-    let l = g .before .least .ensures in
+    let l = at-most _ _ _ (g .before .least .ensures) in
     let t = g .glide .ensures .0 in
     let q = c .before .before .later4 .ensures in
     let i = c .before .before .before .before .if1 .left in
