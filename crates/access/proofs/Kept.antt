@@ -7,13 +7,13 @@ use native.Mathlib.Omega.{arith}
 use lib.Dec.{eqb, ltb}
 use lib.ListN.{getD, set}
 use borrow.Author.Tests.{lt-ltb}
-use Rattle.laws.proofs.Rules.{Answer, yes, no, ask, and-left, and-right, and-both}
-use Rattle.record.specs.declared.Device.{Device as DeviceRecord}
+use Rattle.basics.proofs.Rules.{Answer, yes, no, ask, and-left, and-right, and-both}
+use Rattle.record.specs.declared.Device.{Device}
 use Rattle.part.specs.declared.Register.{Register}
-use Rattle.part.specs.declared.Register.the-variants.{Lock, Inputs, Maker, Device, Missing}
+use Rattle.part.specs.declared.Register.the-variants.{Lock, Inputs, MakerCode, DeviceCode, Missing}
 use Rattle.part.specs.Registers.{registerAt}
-use Rattle.device.specs.Sound.{allBelow, soundOf}
-use Rattle.device.proofs.Clauses.{Parts, parts, joined}
+use Rattle.soundness.specs.Sound.{allBelow, soundOf}
+use Rattle.soundness.proofs.Clauses.{Parts, parts, joined}
 use Rattle.command.proofs.Kept.{written-kept}
 use Rattle.access.specs.Read.{isArray, arrayAddress}
 use Rattle.access.specs.Write.{stored, lockWritten, reachedOf}
@@ -34,15 +34,15 @@ stored-below locks byte (Lock b) e = pick (ask (eqb (getD locks b 0 / 2 % 2) 0))
     pick (yes a) = rw a (set-below 8 locks b (byte % 8) e (lt-ltb (byte % 8) 8 (omega arith)))
     pick (no a) = rw a e
 stored-below locks byte Inputs e = e
-stored-below locks byte Maker e = e
-stored-below locks byte Device e = e
+stored-below locks byte MakerCode e = e
+stored-below locks byte DeviceCode e = e
 stored-below locks byte Missing e = e
 
 locks-kept : (locks : List ℕ) (address byte : ℕ) → allBelow 8 locks ≡ true → allBelow 8 (lockWritten locks address byte) ≡ true
 unfolding lockWritten
 locks-kept locks address byte e = stored-below locks byte (registerAt address) e
 
-pub reached-kept : (d : DeviceRecord) (sample address byte : ℕ) → soundOf d ≡ true → soundOf (reachedOf d sample address byte .device) ≡ true
+pub reached-kept : (d : Device) (sample address byte : ℕ) → soundOf d ≡ true → soundOf (reachedOf d sample address byte .device) ≡ true
 unfolding reachedOf
 reached-kept d sample address byte e = pick (ask (isArray address))
   where

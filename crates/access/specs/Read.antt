@@ -5,13 +5,13 @@ use mathlib.Core.List.{List}
 use lib.Dec.{eqb}
 use lib.ListN.{getD}
 use Rattle.record.specs.declared.Controller.{Controller}
-use Rattle.record.specs.declared.Device.{Device as DeviceRecord}
+use Rattle.record.specs.declared.Device.{Device}
 use Rattle.record.specs.Record.{blockOf}
 use Rattle.record.specs.Sample.{inputs}
 use Rattle.part.specs.declared.Register.{Register}
-use Rattle.part.specs.declared.Register.the-variants.{Lock, Inputs, Maker, Device, Missing}
+use Rattle.part.specs.declared.Register.the-variants.{Lock, Inputs, MakerCode, DeviceCode, Missing}
 use Rattle.part.specs.Registers.{registerAt}
-use Rattle.device.specs.Status.{statusOf}
+use Rattle.status.specs.Status.{statusOf}
 
 -- bit 22 set means array
 abbrev pub isArray : ℕ → Bool
@@ -30,8 +30,8 @@ lockOf locks address = getD locks (blockOf address) 0
 abbrev pub standing : List ℕ → ℕ → Register → ℕ
 standing locks sample (Lock b) = getD locks b 0
 standing locks sample Inputs = inputs sample
-standing locks sample Maker = 0x20
-standing locks sample Device = 0x2D
+standing locks sample MakerCode = 0x20
+standing locks sample DeviceCode = 0x2D
 standing locks sample Missing = 0
 
 unfoldable pub registerValue : List ℕ → ℕ → ℕ → ℕ
@@ -49,7 +49,7 @@ arrayValue c lock address byte =
     (cond (eqb (c .mode) 1) (statusOf c) (signatureOf address))
 
 -- `byte` is what the image holds at the array address: the one place where the image reaches the device
-unfoldable pub valueOf : DeviceRecord → ℕ → ℕ → ℕ → ℕ
+unfoldable pub valueOf : Device → ℕ → ℕ → ℕ → ℕ
 valueOf d sample address byte =
     cond (isArray address)
     (arrayValue (d .controller) (lockOf (d .locks) (arrayAddress address)) (arrayAddress address) byte)

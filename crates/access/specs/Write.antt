@@ -6,10 +6,10 @@ use mathlib.Core.List.{List}
 use lib.Dec.{eqb}
 use lib.ListN.{getD, set}
 use Rattle.record.specs.declared.Controller.{Controller}
-use Rattle.record.specs.declared.Device.{Device as DeviceRecord}
+use Rattle.record.specs.declared.Device.{Device}
 use Rattle.record.specs.Record.{device}
 use Rattle.part.specs.declared.Register.{Register}
-use Rattle.part.specs.declared.Register.the-variants.{Lock, Inputs, Maker, Device, Missing}
+use Rattle.part.specs.declared.Register.the-variants.{Lock, Inputs, MakerCode, DeviceCode, Missing}
 use Rattle.part.specs.Registers.{registerAt}
 use Rattle.command.specs.declared.Verdict.{Verdict}
 use Rattle.command.specs.declared.Verdict.the-variants.{Unjudged}
@@ -22,29 +22,29 @@ use Rattle.access.specs.Read.{isArray, arrayAddress, lockOf}
 abbrev pub stored : List ℕ → ℕ → Register → List ℕ
 stored locks byte (Lock b) = cond (eqb (getD locks b 0 / 2 % 2) 0) (set locks b (byte % 8)) locks
 stored locks byte Inputs = locks
-stored locks byte Maker = locks
-stored locks byte Device = locks
+stored locks byte MakerCode = locks
+stored locks byte DeviceCode = locks
 stored locks byte Missing = locks
 
 unfoldable pub lockWritten : List ℕ → ℕ → ℕ → List ℕ
 lockWritten locks address byte = stored locks byte (registerAt address)
 
-abbrev pub reached : DeviceRecord → Verdict → Reached
+abbrev pub reached : Device → Verdict → Reached
 reached d v = record { device = d; verdict = v }
 
-abbrev pub withController : DeviceRecord → Controller → DeviceRecord
+abbrev pub withController : Device → Controller → Device
 withController d c = device (d .straps) (d .locks) (d .times) (d .frame) c
 
-abbrev pub withLocks : DeviceRecord → List ℕ → DeviceRecord
+abbrev pub withLocks : Device → List ℕ → Device
 withLocks d locks = device (d .straps) locks (d .times) (d .frame) (d .controller)
 
 -- what a write to the array does to the controller
-abbrev pub arrayWritten : DeviceRecord → ℕ → ℕ → ℕ → Written
+abbrev pub arrayWritten : Device → ℕ → ℕ → ℕ → Written
 arrayWritten d sample address byte =
     writtenOf (d .controller) (d .times) sample (lockOf (d .locks) address) address byte
 
 -- registers work at all times and do not touch a setup
-unfoldable pub reachedOf : DeviceRecord → ℕ → ℕ → ℕ → Reached
+unfoldable pub reachedOf : Device → ℕ → ℕ → ℕ → Reached
 reachedOf d sample address byte =
     cond (isArray address)
     (reached

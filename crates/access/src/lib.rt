@@ -1,24 +1,40 @@
 // What stands behind an address: the value that a read finds there, and what a byte written there does.
 use command::Verdict;
 use command::write;
-use device::status;
 use part::Part;
 use part::Register;
+use part::block_of;
 use part::look_up;
 use record::Controller;
 use record::Device;
+use record::inputs;
+use status::status;
 ghost use mathlib.Core.Path.{_≡_};
 ghost use Prim.Native.Nat.{_<_};
 ghost use lib.ListN.{getD};
-ghost use Rattle.access.specs.Read.{lockOf, registerValue, signatureOf, arrayValue, valueOf};
+ghost use Rattle.access.specs.Read.{isArray, arrayAddress, lockOf, registerValue, signatureOf, arrayValue, valueOf};
 ghost use Rattle.access.specs.Write.{lockWritten, arrayWritten, reachedOf};
+
+// The place in the array that an address names.
+pub fn array_address(address: u32) -> u32
+    ensures { λ r. ⌜ r ≡ arrayAddress address ⌝ }
+{
+    address % (Part::BYTES as u32)
+}
+
+// Whether an address names a place in the array.
+fn is_array(address: u32) -> bool
+    ensures { λ r. ⌜ r ≡ isArray address ⌝ }
+{
+    address / 0x400000 % 2 == 1
+}
 
 // The lock register of the block of an array address.
 fn lock_of(locks: [u8; 16], address: u32) -> u8
     requires { ⌜ address < 1048576 ⌝ }
     ensures { λ r. ⌜ r ≡ lockOf locks address ⌝ }
 {
-    let block = (address / Part::BLOCK_BYTES) as usize;
+    let block = block_of(address) as usize;
     locks[block]
 }
 
@@ -31,9 +47,9 @@ fn register_value(locks: [u8; 16], sample: u16, address: u32) -> u8
             let i = b as usize;
             locks[i]
         }
-        Register::Inputs => (sample / 2048) as u8,
-        Register::Maker => Part::MAKER,
-        Register::Device => Part::DEVICE,
+        Register::Inputs => inputs(sample),
+        Register::MakerCode => Part::MAKER_CODE,
+        Register::DeviceCode => Part::DEVICE_CODE,
         Register::Missing => 0,
     }
 }
@@ -42,10 +58,10 @@ fn signature(address: u32) -> u8
     ensures { λ r. ⌜ r ≡ signatureOf address ⌝ }
 {
     if address == 0 {
-        return Part::MAKER;
+        return Part::MAKER_CODE;
     }
     if address == 1 {
-        return Part::DEVICE;
+        return Part::DEVICE_CODE;
     }
     0
 }
@@ -71,9 +87,9 @@ pub fn value(d: Device, sample: u16, address: u32, byte: u8) -> u8
     ensures { λ r. ⌜ r ≡ valueOf d sample address byte ⌝ }
 {
     let locks = d.locks;
-    if address / 0x400000 % 2 == 1 {
+    if is_array(address) {
         let c = d.controller;
-        let at = address % 1048576;
+        let at = array_address(address);
         return array_value(c, lock_of(locks, at), at, byte);
     }
     register_value(locks, sample, address)
@@ -101,8 +117,8 @@ fn write_lock(locks: [u8; 16], address: u32, byte: u8) -> [u8; 16]
             locks
         }
         Register::Inputs => locks,
-        Register::Maker => locks,
-        Register::Device => locks,
+        Register::MakerCode => locks,
+        Register::DeviceCode => locks,
         Register::Missing => locks,
     }
 }
@@ -113,10 +129,10 @@ pub fn reach(d: Device, sample: u16, address: u32, byte: u8) -> Reached
 {
     let locks = d.locks;
     let mut next = d;
-    if address / 0x400000 % 2 == 1 {
+    if is_array(address) {
         let c = d.controller;
         let times = d.times;
-        let at = address % 1048576;
+        let at = array_address(address);
         let w = write(c, times, sample, lock_of(locks, at), at, byte);
         let controller = w.controller;
         let verdict = w.verdict;

@@ -6,14 +6,14 @@ use Prim.Native.Nat.{ℕ, _+_, _*_, _%_, _≤_, _<_}
 use native.Mathlib.Omega.{arith}
 use lib.Dec.{eqb, ltb, leb}
 use borrow.Author.Tests.{ltb-true, ltb-false, leb-true, eqb-true, lt-ltb, le-leb}
-use Rattle.laws.specs.All.{all}
-use Rattle.laws.proofs.Rules.{Answer, yes, no, ask}
-use Rattle.laws.proofs.All.{holds, also, none}
+use Rattle.basics.specs.All.{all}
+use Rattle.basics.proofs.Rules.{Answer, yes, no, ask}
+use Rattle.basics.proofs.All.{holds, also, none}
 use Rattle.record.specs.declared.Frame.{Frame}
 use Rattle.record.specs.Record.{frame, idle, isIdle, isRead, isWrite}
 use Rattle.record.specs.Sample.{lines, frameLine}
-use Rattle.device.specs.Sound.{frameFits}
-use Rattle.bus.specs.Frames.{begun, shifted, headed, readOn, writeOn, nextOf, framedOf}
+use Rattle.soundness.specs.Sound.{frameFits}
+use Rattle.bus.specs.Frames.{begun, shifted, headed, readOn, writeOn, nextOf, frameClock}
 
 -- what a frame in progress is known by
 record Stage (f : Frame) : Type 0 where
@@ -109,11 +109,11 @@ write-fits f n e i = pick (ask (eqb (f .clock) 10)) (ask (eqb (f .clock) 11)) (a
         rw (a, b, c) (on f (f .clock + 1) (f .byte) (f .address) e i (omega arith) (omega arith) (s .address))
     pick (no a) (no b) (no c) = rw (a, b, c) rests
 
-pub frame-kept : (straps : ℕ) (f : Frame) (sample : ℕ) → frameFits f ≡ true → frameFits (framedOf straps f sample) ≡ true
-unfolding framedOf nextOf
+pub frame-kept : (straps : ℕ) (f : Frame) (sample : ℕ) → frameFits f ≡ true → frameFits (frameClock straps f sample) ≡ true
+unfolding frameClock nextOf
 frame-kept straps f sample e = pick (ask (eqb (frameLine sample) 0)) (ask (isIdle f)) (ask (ltb (f .clock) 10)) (ask (isRead f))
   where
-    pick : Answer (eqb (frameLine sample) 0) → Answer (isIdle f) → Answer (ltb (f .clock) 10) → Answer (isRead f) → frameFits (framedOf straps f sample) ≡ true
+    pick : Answer (eqb (frameLine sample) 0) → Answer (isIdle f) → Answer (ltb (f .clock) 10) → Answer (isRead f) → frameFits (frameClock straps f sample) ≡ true
     pick (yes a) b c d = rw a (begun-fits (lines sample))
     pick (no a) (yes b) c d = rw (a, b) e
     pick (no a) (no b) (yes c) d = rw (a, b, c) (headed-fits straps f (lines sample) e b (omega arith))

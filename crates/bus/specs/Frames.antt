@@ -40,8 +40,8 @@ nextOf straps f nibble =
     cond (ltb (f .clock) 10) (headed straps f nibble) (cond (isRead f) (readOn f) (writeOn f nibble))
 
 -- one clock of the bus
-unfoldable pub framedOf : ℕ → Frame → ℕ → Frame
-framedOf straps f sample =
+unfoldable pub frameClock : ℕ → Frame → ℕ → Frame
+frameClock straps f sample =
     cond (eqb (frameLine sample) 0) (begun (lines sample))
     (cond (isIdle f) f (nextOf straps f (lines sample)))
 

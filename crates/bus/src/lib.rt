@@ -1,9 +1,12 @@
 // The frames: what each clock of the bus takes, asks and drives.
 use record::Frame;
+use record::frame_line;
+use record::idle_frame;
+use record::lines;
 ghost use mathlib.Core.Path.{_≡_};
 ghost use Prim.Native.Nat.{_<_};
 ghost use Rattle.record.specs.Record.{frame};
-ghost use Rattle.bus.specs.Frames.{shifted, headed, readOn, writeOn, nextOf, begun, framedOf, askedOf, drivenOf};
+ghost use Rattle.bus.specs.Frames.{shifted, headed, readOn, writeOn, nextOf, begun, frameClock, askedOf, drivenOf};
 
 fn frame(kind: u8, clock: u8, byte: u8, address: u32) -> Frame
     ensures { λ r. ⌜ r ≡ frame kind clock byte address ⌝ }
@@ -26,7 +29,7 @@ fn begin(lines: u8) -> Frame
     if lines == 14 {
         return frame(2, 1, 0, 0);
     }
-    frame(0, 0, 0, 0)
+    idle_frame()
 }
 
 // The address with one more nibble.
@@ -47,7 +50,7 @@ fn head(straps: u8, f: Frame, lines: u8) -> Frame
         if lines == straps {
             return frame(f.kind, 2, 0, 0);
         }
-        return frame(0, 0, 0, 0);
+        return idle_frame();
     }
     if f.clock < 9 {
         return frame(f.kind, f.clock + 1, 0, shift(f.address, lines));
@@ -55,7 +58,7 @@ fn head(straps: u8, f: Frame, lines: u8) -> Frame
     if lines == 0 {
         return frame(f.kind, 10, 0, f.address);
     }
-    frame(0, 0, 0, 0)
+    idle_frame()
 }
 
 // The rest of a read: the frame goes on to its last clock.
@@ -65,7 +68,7 @@ fn read_on(f: Frame) -> Frame
     if f.clock < 18 {
         return frame(f.kind, f.clock + 1, f.byte, f.address);
     }
-    frame(0, 0, 0, 0)
+    idle_frame()
 }
 
 // The rest of a write: two nibbles of data, the lower first, and on to its last clock.
@@ -82,7 +85,7 @@ fn write_on(f: Frame, lines: u8) -> Frame
     if f.clock < 16 {
         return frame(f.kind, f.clock + 1, f.byte, f.address);
     }
-    frame(0, 0, 0, 0)
+    idle_frame()
 }
 
 fn next(straps: u8, f: Frame, lines: u8) -> Frame
@@ -100,15 +103,15 @@ fn next(straps: u8, f: Frame, lines: u8) -> Frame
 
 // One clock of the bus: the frame after it.
 pub fn clock_frame(straps: u8, f: Frame, sample: u16) -> Frame
-    ensures { λ r. ⌜ r ≡ framedOf straps f sample ⌝ }
+    ensures { λ r. ⌜ r ≡ frameClock straps f sample ⌝ }
 {
-    if sample / 16 % 2 == 0 {
-        return begin((sample % 16) as u8);
+    if frame_line(sample) == 0 {
+        return begin(lines(sample));
     }
     if f.kind == 0 {
         return f;
     }
-    next(straps, f, (sample % 16) as u8)
+    next(straps, f, lines(sample))
 }
 
 // What a frame asks on the clock that it has come to.

@@ -8,18 +8,18 @@ use native.Mathlib.Omega.{arith}
 use lib.Dec.{eqb, ltb}
 use lib.ListN.{length}
 use borrow.Author.Tests.{ltb-false, eqb-true, ne-eqb, not-true}
-use Rattle.laws.proofs.Rules.{Answer, yes, no, ask, clash, and-left, and-right}
+use Rattle.basics.proofs.Rules.{Answer, yes, no, ask, clash, and-left, and-right}
 use Rattle.record.specs.declared.Frame.{Frame}
 use Rattle.record.specs.declared.Controller.{Controller}
 use Rattle.record.specs.declared.Device.{Device}
 use Rattle.record.specs.Record.{frame, idle, isIdle, isRead, isWrite}
-use Rattle.record.specs.Sample.{lines, frameLine}
+use Rattle.record.specs.Sample.{lines, frameLine, isReset}
 use Rattle.effect.specs.Effect.{applied}
-use Rattle.operation.specs.Clock.{countedOf}
+use Rattle.operation.specs.Clock.{controllerClock}
 use Rattle.bus.specs.declared.Asked.{Asked}
 use Rattle.bus.specs.declared.Asked.the-variants.{Nothing as Silent, Read, Write}
-use Rattle.bus.specs.Frames.{begun, headed, readOn, writeOn, nextOf, framedOf, askedOf}
-use Rattle.clock.specs.Clock.{isReset, resetDevice, withFrame, answeredTo, servedOf, afterController, imageAfter, advancedOf}
+use Rattle.bus.specs.Frames.{begun, headed, readOn, writeOn, nextOf, frameClock, askedOf}
+use Rattle.clock.specs.Clock.{resetDevice, withFrame, answeredTo, servedOf, afterController, imageAfter, deviceClock}
 use Rattle.clock.specs.Fold.{World, world, onward, through}
 
 -- the sample with its frame line high
@@ -48,9 +48,9 @@ pub data BrokenOff : List ℕ → Type 0 where
       → BrokenOff (first ∷ (others ++ (last ∷ [])))
 
 -- within n clocks more the frame writes no byte: it does not come to clock 12, or is no write
-pub data Calm (n : ℕ) (f : Frame) : Type 0 where
-  before : f .clock + n ≤ 11 → Calm n f
-  other : isWrite f ≡ false → Calm n f
+pub data Free (n : ℕ) (f : Frame) : Type 0 where
+  before : f .clock + n ≤ 11 → Free n f
+  other : isWrite f ≡ false → Free n f
 
 -- the world with its bus idle
 abbrev pub silenced : World → World
@@ -73,7 +73,7 @@ isWritten (Write address byte) = true
 -- a byte is written on the clock of this sample
 unfoldable pub writes : World → ℕ → Bool
 writes w sample =
-    cond (isReset sample) false (isWritten (askedOf (framedOf (w .device .straps) (w .device .frame) sample)))
+    cond (isReset sample) false (isWritten (askedOf (frameClock (w .device .straps) (w .device .frame) sample)))
 
 -- what is tested for happens on none of the clocks
 abbrev pub never : (World → ℕ → Bool) → List ℕ → World → Bool
@@ -112,13 +112,13 @@ raised-high s = pick (ask (eqb (frameLine s) 0))
     pick (no a) = rw (a, a)
 
 -- an idle bus stays idle
-stays : (straps s : ℕ) → framedOf straps idle (raised s) ≡ idle
-unfolding framedOf
+stays : (straps s : ℕ) → frameClock straps idle (raised s) ≡ idle
+unfolding frameClock
 stays straps s = rw (raised-high s)
 
 -- the frame after the bus's clock
 abbrev framed : World → ℕ → Frame
-framed w s = framedOf (w .device .straps) (w .device .frame) s
+framed w s = frameClock (w .device .straps) (w .device .frame) s
 
 -- but for the frame, a clock on which no byte is written is one with the bus idle
 answered-silent : (a : Asked) (d : Device) (image : List ℕ) (s : ℕ)
@@ -129,14 +129,14 @@ answered-silent (Read address) d image s e = refl
 answered-silent (Write address byte) d image s e = clash (sym e)
 
 pub unheard-once : (w : World) (s : ℕ) → writes w s ≡ false → silenced (onward w s) ≡ onward (silenced w) (raised s)
-unfolding onward advancedOf imageAfter resetDevice servedOf writes askedOf
+unfolding onward deviceClock imageAfter resetDevice servedOf writes askedOf
 unheard-once w s = pick (ask (isReset s))
   where
     pick : Answer (isReset s) → writes w s ≡ false → silenced (onward w s) ≡ onward (silenced w) (raised s)
     pick (yes a) e = rw (raised-reset s, a)
     pick (no a) e =
         rw (raised-reset s, a, stays (w .device .straps) s)
-        (ap (λ (d : Device). world d (applied (countedOf (w .device .controller) .effect) (w .image)))
+        (ap (λ (d : Device). world d (applied (controllerClock (w .device .controller) .effect) (w .image)))
         (answered-silent (askedOf (framed w s)) (withFrame (afterController (w .device)) (framed w s)) _ s (rw a at e)))
 
 pub unheard : (ss : List ℕ) (w : World) → never writes ss w ≡ true → silenced (through ss w) ≡ through (map raised ss) (silenced w)
@@ -185,51 +185,51 @@ write-follows f n = pick (ask (eqb (f .clock) 10)) (ask (eqb (f .clock) 11)) (as
     pick (no a) (no b) (yes c) = rw (a, b, c) (goes f (f .clock + 1) _ _ (omega arith))
     pick (no a) (no b) (no c) = rw (a, b, c) (stops f)
 
-follows : (straps : ℕ) (f : Frame) (s : ℕ) → frameLine s ≡ 1 → Follows f (framedOf straps f s)
-unfolding framedOf nextOf
+follows : (straps : ℕ) (f : Frame) (s : ℕ) → frameLine s ≡ 1 → Follows f (frameClock straps f s)
+unfolding frameClock nextOf
 follows straps f s e = pick (ask (isIdle f)) (ask (ltb (f .clock) 10)) (ask (isRead f))
   where
-    pick : Answer (isIdle f) → Answer (ltb (f .clock) 10) → Answer (isRead f) → Follows f (framedOf straps f s)
+    pick : Answer (isIdle f) → Answer (ltb (f .clock) 10) → Answer (isRead f) → Follows f (frameClock straps f s)
     pick (yes b) c d = rw (e, b) (goes f (f .clock) _ _ (omega arith))
     pick (no b) (yes c) d = rw (e, b, c) (headed-follows straps f (lines s))
     pick (no b) (no c) (yes d) = rw (e, b, c, d) (read-follows f)
     pick (no b) (no c) (no d) = rw (e, b, c, d) (write-follows f (lines s))
 
-calm-next : (n straps : ℕ) (f : Frame) (s : ℕ) → frameLine s ≡ 1 → Calm (suc n) f → Calm n (framedOf straps f s)
+calm-next : (n straps : ℕ) (f : Frame) (s : ℕ) → frameLine s ≡ 1 → Free (suc n) f → Free n (frameClock straps f s)
 calm-next n straps f s e (before h) = let q = follows straps f s e in before (omega arith)
 calm-next n straps f s e (other h) = other (follows straps f s e .kind h)
 
 -- where the frame line is low, a frame is at clock 1 at most
-begun-calm : (n nibble : ℕ) → n ≤ 10 → Calm n (begun nibble)
+begun-calm : (n nibble : ℕ) → n ≤ 10 → Free n (begun nibble)
 unfolding begun
 begun-calm n nibble h = pick (ask (eqb nibble 13)) (ask (eqb nibble 14))
   where
-    pick : Answer (eqb nibble 13) → Answer (eqb nibble 14) → Calm n (begun nibble)
+    pick : Answer (eqb nibble 13) → Answer (eqb nibble 14) → Free n (begun nibble)
     pick (yes a) b = rw a (other refl)
     pick (no a) (yes b) = rw (a, b) (before (omega arith))
     pick (no a) (no b) = rw (a, b) (other refl)
 
-calm-low : (n straps : ℕ) (f : Frame) (s : ℕ) → frameLine s ≡ 0 → n ≤ 10 → Calm n (framedOf straps f s)
-unfolding framedOf
+calm-low : (n straps : ℕ) (f : Frame) (s : ℕ) → frameLine s ≡ 0 → n ≤ 10 → Free n (frameClock straps f s)
+unfolding frameClock
 calm-low n straps f s e h = rw e (begun-calm n (lines s) h)
 
-calm-read : (n straps : ℕ) (f : Frame) (s : ℕ) → frameLine s ≡ 0 → lines s ≡ 13 → Calm n (framedOf straps f s)
-unfolding framedOf begun
+calm-read : (n straps : ℕ) (f : Frame) (s : ℕ) → frameLine s ≡ 0 → lines s ≡ 13 → Free n (frameClock straps f s)
+unfolding frameClock begun
 calm-read n straps f s e h = rw (e, h) (other refl)
 
 -- a byte is written on clock 12 of a write
-calm-asked : (n : ℕ) (f : Frame) → Calm n f → isWritten (askedOf f) ≡ false
+calm-asked : (n : ℕ) (f : Frame) → Free n f → isWritten (askedOf f) ≡ false
 unfolding askedOf
 calm-asked n f = pick (ask (isRead f)) (ask (eqb (f .clock) 15)) (ask (isWrite f))
   where
-    pick : Answer (isRead f) → Answer (eqb (f .clock) 15) → Answer (isWrite f) → Calm n f → isWritten (askedOf f) ≡ false
+    pick : Answer (isRead f) → Answer (eqb (f .clock) 15) → Answer (isWrite f) → Free n f → isWritten (askedOf f) ≡ false
     pick (yes a) (yes b) c k = rw (a, b)
     pick (yes a) (no b) c k = rw (a, b)
     pick (no a) b (no c) k = rw (a, c)
     pick (no a) b (yes c) (before h) = rw (a, c, ne-eqb (f .clock) 12 (λ e. omega arith))
     pick (no a) b (yes c) (other h) = clash (sym h ∙ c)
 
-calm-writes : (n : ℕ) (w : World) (s : ℕ) → Calm n (framed w s) → writes w s ≡ false
+calm-writes : (n : ℕ) (w : World) (s : ℕ) → Free n (framed w s) → writes w s ≡ false
 unfolding writes
 calm-writes n w s k = pick (ask (isReset s))
   where
@@ -239,19 +239,19 @@ calm-writes n w s k = pick (ask (isReset s))
 
 -- the rest of a clock leaves kind and clock of the frame, or drops the frame
 answered-calm : (n : ℕ) (a : Asked) (d : Device) (image : List ℕ) (s : ℕ)
-    → Calm n (d .frame)
+    → Free n (d .frame)
     → isWritten a ≡ false
-    → Calm n (answeredTo a d image s .device .frame)
+    → Free n (answeredTo a d image s .device .frame)
 answered-calm n Silent d image s k e = k
 answered-calm n (Read address) d image s (before h) e = before h
 answered-calm n (Read address) d image s (other h) e = other h
 answered-calm n (Write address byte) d image s k e = clash (sym e)
 
-calm-onward : (n : ℕ) (w : World) (s : ℕ) → Calm n (framed w s) → Calm n (onward w s .device .frame)
-unfolding onward advancedOf resetDevice servedOf
+calm-onward : (n : ℕ) (w : World) (s : ℕ) → Free n (framed w s) → Free n (onward w s .device .frame)
+unfolding onward deviceClock resetDevice servedOf
 calm-onward n w s k = pick (ask (isReset s))
   where
-    pick : Answer (isReset s) → Calm n (onward w s .device .frame)
+    pick : Answer (isReset s) → Free n (onward w s .device .frame)
     pick (yes a) = rw a (other refl)
     pick (no a) =
         rw a
@@ -259,7 +259,7 @@ calm-onward n w s k = pick (ask (isReset s))
 
 -- no byte is written: from a frame in progress, and from its first clock on
 pub unwritten-on : (hs : List ℕ) (t : ℕ) (w : World)
-    → Calm (length hs) (w .device .frame)
+    → Free (length hs) (w .device .frame)
     → high hs ≡ true
     → frameLine t ≡ 0
     → never writes (hs ++ (t ∷ [])) w ≡ true
@@ -271,7 +271,7 @@ unwritten-on (h ∷ hs) t w k e f =
     (unwritten-on hs t (onward w h) (calm-onward (length hs) w h c) (and-right (eqb (frameLine h) 1) (high hs) e) f)
 
 begins : (s : ℕ) (hs : List ℕ) (t : ℕ) (w : World)
-    → Calm (length hs) (framed w s)
+    → Free (length hs) (framed w s)
     → high hs ≡ true
     → frameLine t ≡ 0
     → never writes (s ∷ (hs ++ (t ∷ []))) w ≡ true
@@ -284,7 +284,7 @@ unwritten ss w (reading s hs t b r e f) = begins s hs t w (calm-read (length hs)
 
 -- but for the frame, the world is as with the bus idle: from a frame in progress, and from its first clock on
 pub broken-on : (hs : List ℕ) (t : ℕ) (w : World)
-    → Calm (length hs) (w .device .frame)
+    → Free (length hs) (w .device .frame)
     → high hs ≡ true
     → frameLine t ≡ 0
     → silenced (through (hs ++ (t ∷ [])) w) ≡ through (map raised (hs ++ (t ∷ []))) (silenced w)

@@ -5,18 +5,18 @@ use mathlib.Core.List.{List}
 use Prim.Native.Nat.{ℕ}
 use lib.Dec.{eqb}
 use borrow.Author.Tests.{eqb-true}
-use Rattle.laws.proofs.Rules.{Answer, yes, no, ask, clash}
+use Rattle.basics.proofs.Rules.{Answer, yes, no, ask, clash}
 use Rattle.record.specs.declared.Frame.{Frame}
 use Rattle.record.specs.declared.Device.{Device}
 use Rattle.record.specs.Record.{isIdle}
-use Rattle.record.specs.Sample.{frameLine}
+use Rattle.record.specs.Sample.{frameLine, isReset}
 use Rattle.effect.specs.declared.Effect.the-variants.{Nothing}
 use Rattle.operation.specs.Clock.{active, isStill}
-use Rattle.operation.proofs.Facts.{still-counted}
+use Rattle.operation.proofs.Facts.{still-clocked}
 use Rattle.command.specs.declared.Verdict.the-variants.{Unjudged}
 use Rattle.bus.specs.declared.Asked.the-variants.{Nothing as Silent}
-use Rattle.bus.specs.Frames.{framedOf, askedOf, drivenOf}
-use Rattle.clock.specs.Clock.{isReset, servedOf, told, advanced, imageAfter, advancedOf}
+use Rattle.bus.specs.Frames.{frameClock, askedOf, drivenOf}
+use Rattle.clock.specs.Clock.{servedOf, happened, deviceClocked, imageAfter, deviceClock}
 use Rattle.clock.specs.Eventless.{isEventless}
 
 record Eventless (d : Device) (sample : ℕ) : Type 0 where
@@ -39,13 +39,13 @@ unfolding askedOf drivenOf
 idle-silent f e = rw e (refl, refl)
 
 module _ (d : Device) (image : List ℕ) (sample : ℕ) (r : isReset sample ≡ false) (e : isEventless d sample ≡ true) where
-  pub eventless-advanced : advanced d 0 (told Nothing Unjudged false false) ≡ advancedOf d image sample
-  unfolding advancedOf servedOf framedOf
-  eventless-advanced =
+  pub eventless-device : deviceClocked d 0 (happened Nothing Unjudged false false) ≡ deviceClock d image sample
+  unfolding deviceClock servedOf frameClock
+  eventless-device =
       let c = eventlessly d sample e in
       let s = idle-silent (d .frame) (eqb-true (d .frame .kind) 0 (c .idle)) in
-      rw (r, still-counted (d .controller) (c .still), c .high, c .idle, s .0, s .1)
+      rw (r, still-clocked (d .controller) (c .still), c .high, c .idle, s .0, s .1)
 
   pub eventless-image : image ≡ imageAfter d image sample
   unfolding imageAfter
-  eventless-image = rw (r, still-counted (d .controller) (eventlessly d sample e .still))
+  eventless-image = rw (r, still-clocked (d .controller) (eventlessly d sample e .still))

@@ -6,26 +6,28 @@ use Prim.Native.Nat.{ℕ, _+_, _≤_, _<_}
 use native.Mathlib.Omega.{arith}
 use lib.ListN.{length, take, drop, set, replicate, length-append, length-take, length-drop, length-set, length-replicate}
 use lib.Seq.{length-take-le}
-use Rattle.laws.proofs.Rules.{Answer, yes, no, ask}
+use Rattle.basics.proofs.Rules.{Answer, yes, no, ask}
 use Rattle.record.specs.declared.Frame.{Frame}
 use Rattle.record.specs.declared.Controller.{Controller}
 use Rattle.record.specs.declared.Device.{Device}
 use Rattle.record.specs.Record.{isIdle, isRead, idle, frame}
-use Rattle.device.specs.Sound.{allBelow, frameFits, soundOf}
-use Rattle.device.proofs.Clauses.{Parts, parts, joined}
+use Rattle.soundness.specs.Sound.{allBelow, frameFits, soundOf}
+use Rattle.soundness.proofs.Clauses.{Parts, parts, joined}
 use Rattle.effect.specs.declared.Effect.{Effect}
 use Rattle.effect.specs.declared.Effect.the-variants.{Nothing, Program, Fill}
-use Rattle.effect.specs.Effect.{within, filled, applied}
-use Rattle.operation.specs.Clock.{countedOf}
-use Rattle.operation.proofs.Within.{counted-within}
-use Rattle.operation.proofs.Kept.{counted-kept, reset-kept}
+use Rattle.basics.specs.Bytes.{filled}
+use Rattle.effect.specs.Effect.{fitsIn, applied}
+use Rattle.operation.specs.Clock.{controllerClock}
+use Rattle.operation.proofs.FitsIn.{controller-clock-fits}
+use Rattle.operation.proofs.Kept.{controller-clock-kept, reset-kept}
 use Rattle.bus.specs.declared.Asked.{Asked}
 use Rattle.bus.specs.declared.Asked.the-variants.{Nothing as Silent, Read, Write}
-use Rattle.bus.specs.Frames.{framedOf, askedOf}
+use Rattle.bus.specs.Frames.{frameClock, askedOf}
 use Rattle.bus.proofs.Kept.{frame-kept, rests}
 use Rattle.access.specs.Write.{withController}
 use Rattle.access.proofs.Kept.{reached-kept}
-use Rattle.clock.specs.Clock.{isReset, resetDevice, withFrame, withByte, answeredTo, servedOf, afterController, advancedOf, imageAfter}
+use Rattle.record.specs.Sample.{isReset}
+use Rattle.clock.specs.Clock.{resetDevice, withFrame, withByte, answeredTo, servedOf, afterController, deviceClock, imageAfter}
 
 -- the byte of a frame is no part of its stage
 byte-fits : (f : Frame) (byte : ℕ) → frameFits f ≡ true → frameFits (withByte f byte) ≡ true
@@ -46,8 +48,8 @@ answered-sound (Write address byte) d image sample e = reached-kept d sample add
 pub served-sound : (d : Device) (image : List ℕ) (sample : ℕ) → soundOf d ≡ true → soundOf (servedOf d image sample .device) ≡ true
 unfolding servedOf
 served-sound d image sample e =
-    answered-sound (askedOf (framedOf (d .straps) (d .frame) sample)) (withFrame d (framedOf (d .straps) (d .frame) sample)) image sample
-    (framed d (framedOf (d .straps) (d .frame) sample) e (frame-kept (d .straps) (d .frame) sample (parts d e .frame)))
+    answered-sound (askedOf (frameClock (d .straps) (d .frame) sample)) (withFrame d (frameClock (d .straps) (d .frame) sample)) image sample
+    (framed d (frameClock (d .straps) (d .frame) sample) e (frame-kept (d .straps) (d .frame) sample (parts d e .frame)))
 
 pub reset-sound : (d : Device) → soundOf d ≡ true → soundOf (resetDevice d) ≡ true
 unfolding resetDevice
@@ -60,18 +62,18 @@ pub controller-sound : (d : Device) → soundOf d ≡ true → soundOf (afterCon
 controller-sound d e =
     let p = parts d e in
     joined _
-    (record { straps = p .straps; locks = p .locks; times = p .times; frame = p .frame; controller = counted-kept (d .controller) (p .controller) })
+    (record { straps = p .straps; locks = p .locks; times = p .times; frame = p .frame; controller = controller-clock-kept (d .controller) (p .controller) })
 
-pub advanced-sound : (d : Device) (image : List ℕ) (sample : ℕ) → soundOf d ≡ true → soundOf (advancedOf d image sample .device) ≡ true
-unfolding advancedOf
-advanced-sound d image sample e = pick (ask (isReset sample))
+pub device-clock-sound : (d : Device) (image : List ℕ) (sample : ℕ) → soundOf d ≡ true → soundOf (deviceClock d image sample .device) ≡ true
+unfolding deviceClock
+device-clock-sound d image sample e = pick (ask (isReset sample))
   where
-    pick : Answer (isReset sample) → soundOf (advancedOf d image sample .device) ≡ true
+    pick : Answer (isReset sample) → soundOf (deviceClock d image sample .device) ≡ true
     pick (yes a) = rw a (reset-sound d e)
     pick (no a) = rw a (served-sound (afterController d) _ sample (controller-sound d e))
 
 -- an effect that lies inside an image leaves its length
-pub applied-length : (e : Effect) (image : List ℕ) → within e (length image) → length (applied e image) ≡ length image
+pub applied-length : (e : Effect) (image : List ℕ) → fitsIn e (length image) → length (applied e image) ≡ length image
 applied-length Nothing image h = refl
 applied-length (Program address byte) image h = simp length-set
 applied-length (Fill start count value) image h =
@@ -86,5 +88,5 @@ image-length d image sample e l = pick (ask (isReset sample))
     pick (yes a) = rw a
     pick (no a) =
         rw a
-        (applied-length (countedOf (d .controller) .effect) image
-        (rw l (counted-within (d .controller) (parts d e .controller))))
+        (applied-length (controllerClock (d .controller) .effect) image
+        (rw l (controller-clock-fits (d .controller) (parts d e .controller))))

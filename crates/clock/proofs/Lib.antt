@@ -1,5 +1,4 @@
 pub mod Eventless
-pub mod Doors
 pub mod Kept
 pub mod Broken
 pub mod Pins

@@ -6,23 +6,23 @@ use mathlib.Core.List.{List, [], _∷_, map}
 use Prim.Native.Nat.{ℕ, _%_}
 use native.Mathlib.Omega.{arith}
 use lib.Dec.{eqb, ltb}
-use Rattle.laws.proofs.Rules.{Answer, yes, no, ask, clash}
+use Rattle.basics.proofs.Rules.{Answer, yes, no, ask, clash}
 use Rattle.units.specs.declared.Times.{Times}
 use Rattle.record.specs.declared.Frame.{Frame}
 use Rattle.record.specs.declared.Controller.{Controller}
 use Rattle.record.specs.declared.Device.{Device}
 use Rattle.record.specs.Record.{device, isIdle, isRead, isWrite}
-use Rattle.record.specs.Sample.{lines, frameLine, rp, init}
+use Rattle.record.specs.Sample.{lines, frameLine, rp, init, isReset}
 use Rattle.effect.specs.Effect.{applied}
-use Rattle.operation.specs.Clock.{countedOf}
+use Rattle.operation.specs.Clock.{controllerClock}
 use Rattle.bus.specs.declared.Asked.{Asked}
 use Rattle.bus.specs.declared.Asked.the-variants.{Nothing as Silent, Read, Write}
-use Rattle.bus.specs.Frames.{headed, readOn, nextOf, framedOf, askedOf}
+use Rattle.bus.specs.Frames.{headed, readOn, nextOf, frameClock, askedOf}
 use Rattle.command.specs.declared.Written.{Written}
 use Rattle.command.specs.Setup.{writtenOf}
 use Rattle.access.specs.Read.{isArray}
 use Rattle.access.specs.Write.{reachedOf, withLocks}
-use Rattle.clock.specs.Clock.{isReset, resetDevice, withByte, answeredTo, servedOf, imageAfter, advancedOf}
+use Rattle.clock.specs.Clock.{resetDevice, withByte, answeredTo, servedOf, imageAfter, deviceClock}
 use Rattle.clock.specs.Fold.{World, world, onward, through}
 use Rattle.clock.proofs.Broken.{never, not-now, not-later}
 
@@ -40,7 +40,7 @@ endsSetup (Write address byte) setup = isArray address && not (eqb setup 0)
 unfoldable pub ends : World → ℕ → Bool
 ends w sample =
     cond (isReset sample) false
-    (endsSetup (askedOf (framedOf (w .device .straps) (w .device .frame) sample)) (countedOf (w .device .controller) .controller .setup))
+    (endsSetup (askedOf (frameClock (w .device .straps) (w .device .frame) sample)) (controllerClock (w .device .controller) .controller .setup))
 
 -- equal frames, but for the byte that a read in progress has found
 pub data FramesAlike (f : Frame) : Frame → Type 0 where
@@ -73,28 +73,28 @@ module _ (s t : ℕ) (e : withoutPins s ≡ withoutPins t) where
       rw (r, i)
 
 -- the bus: frames that are alike stay so, and ask the same
-same-framed : (straps : ℕ) (f : Frame) (s t : ℕ) → withoutPins s ≡ withoutPins t → framedOf straps f s ≡ framedOf straps f t
-unfolding framedOf
+same-framed : (straps : ℕ) (f : Frame) (s t : ℕ) → withoutPins s ≡ withoutPins t → frameClock straps f s ≡ frameClock straps f t
+unfolding frameClock
 same-framed straps f s t e = rw (same-lines s t e, same-line s t e)
 
 framed-reading : (straps : ℕ) (f : Frame) (byte s : ℕ)
     → isRead f ≡ true
-    → FramesAlike (framedOf straps f s) (framedOf straps (withByte f byte) s)
-unfolding framedOf nextOf headed readOn
+    → FramesAlike (frameClock straps f s) (frameClock straps (withByte f byte) s)
+unfolding frameClock nextOf headed readOn
 framed-reading straps f byte s r = pick (ask (eqb (frameLine s) 0)) (ask (isIdle f)) (ask (ltb (f .clock) 10)) (ask (ltb (f .clock) 18))
   where
     pick : Answer (eqb (frameLine s) 0)
         → Answer (isIdle f)
         → Answer (ltb (f .clock) 10)
         → Answer (ltb (f .clock) 18)
-        → FramesAlike (framedOf straps f s) (framedOf straps (withByte f byte) s)
+        → FramesAlike (frameClock straps f s) (frameClock straps (withByte f byte) s)
     pick (yes a) b c d = rw a same
     pick (no a) (yes b) c d = rw (a, b) (reading r byte)
     pick (no a) (no b) (yes c) d = rw (a, b, c) same
     pick (no a) (no b) (no c) (yes d) = rw (a, b, c, r, d) (reading r byte)
     pick (no a) (no b) (no c) (no d) = rw (a, b, c, r, d) same
 
-framed-alike : (straps : ℕ) (f g : Frame) (s : ℕ) → FramesAlike f g → FramesAlike (framedOf straps f s) (framedOf straps g s)
+framed-alike : (straps : ℕ) (f g : Frame) (s : ℕ) → FramesAlike f g → FramesAlike (frameClock straps f s) (frameClock straps g s)
 framed-alike straps f g s same = same
 framed-alike straps f g s (reading r byte) = framed-reading straps f byte s r
 
@@ -166,10 +166,10 @@ once : (straps : ℕ) (l m : List ℕ) (ts : Times) (f g : Frame) (c : Controlle
     → FramesAlike f g
     → ends (world (device straps l ts f c) image) s ≡ false
     → Alike (onward (world (device straps l ts f c) image) s) (onward (world (device straps m ts g c) image) t)
-unfolding onward advancedOf imageAfter resetDevice servedOf ends
+unfolding onward deviceClock imageAfter resetDevice servedOf ends
 once straps l m ts f g c image s t e h = pick (ask (isReset s))
   where
-    p : FramesAlike (framedOf straps f s) (framedOf straps g s)
+    p : FramesAlike (frameClock straps f s) (frameClock straps g s)
     p = framed-alike straps f g s h
 
     pick : Answer (isReset s)
@@ -179,9 +179,9 @@ once straps l m ts f g c image s t e h = pick (ask (isReset s))
         rw (← same-reset s t e, a)
         (record { straps = refl; times = refl; frames = same; controllers = refl; images = refl })
     pick (no a) n =
-        rw (← same-reset s t e, ← same-framed straps g s t e, a, asked-alike (framedOf straps f s) (framedOf straps g s) p)
-        (answered-alike straps l m ts (framedOf straps f s) (framedOf straps g s) (countedOf c .controller) (applied (countedOf c .effect) image) s t p
-        (askedOf (framedOf straps f s)) (fixed-read (framedOf straps f s)) (rw a at n))
+        rw (← same-reset s t e, ← same-framed straps g s t e, a, asked-alike (frameClock straps f s) (frameClock straps g s) p)
+        (answered-alike straps l m ts (frameClock straps f s) (frameClock straps g s) (controllerClock c .controller) (applied (controllerClock c .effect) image) s t p
+        (askedOf (frameClock straps f s)) (fixed-read (frameClock straps f s)) (rw a at n))
 
 pub alike-once : (v w : World) (s t : ℕ)
     → withoutPins s ≡ withoutPins t

@@ -2,7 +2,7 @@
 use Prim.Native.Nat.{ℕ, zero, suc}
 use mathlib.Core.List.{List, [], _∷_}
 use Rattle.record.specs.declared.Device.{Device}
-use Rattle.clock.specs.Clock.{advancedOf, imageAfter}
+use Rattle.clock.specs.Clock.{deviceClock, imageAfter}
 
 pub record World : Type 0 where
   pub device : Device
@@ -14,10 +14,10 @@ world d image = record { device = d; image = image }
 -- the world after a sample, and the answer byte to it
 unfoldable pub onward : World → ℕ → World
 onward w sample =
-    world (advancedOf (w .device) (w .image) sample .device) (imageAfter (w .device) (w .image) sample)
+    world (deviceClock (w .device) (w .image) sample .device) (imageAfter (w .device) (w .image) sample)
 
 unfoldable pub answerTo : World → ℕ → ℕ
-answerTo w sample = advancedOf (w .device) (w .image) sample .answer
+answerTo w sample = deviceClock (w .device) (w .image) sample .answer
 
 -- the world after some samples, and the answer bytes to them
 abbrev pub through : List ℕ → World → World

@@ -1,4 +1,3 @@
 pub mod Clock
 pub mod Eventless
-pub mod Step
 pub mod Fold

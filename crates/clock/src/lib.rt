@@ -1,5 +1,6 @@
-// One clock, in order: reset, or the controller with its effect on the image and then the bus; and the step by value.
+// One clock, in order: reset, or the controller with its effect on the image and then the bus.
 use access::Reached;
+use access::array_address;
 use access::reach;
 use access::value;
 use bus::Asked;
@@ -7,46 +8,36 @@ use bus::ask;
 use bus::clock_frame;
 use bus::drive;
 use command::Verdict;
-use device::sound;
 use effect::Effect;
 use effect::apply;
 use operation::active_of;
-use operation::count;
+use operation::clock_controller;
 use operation::is_still;
 use operation::reset;
-use part::Part;
 use record::Device;
-use record::Frame;
+use record::frame_line;
+use record::idle_frame;
+use record::is_reset;
 ghost use mathlib.Core.Path.{_≡_};
 ghost use mathlib.Core.Bool.{true};
 ghost use lib.ListN.{length};
-ghost use Rattle.device.specs.Sound.{soundOf, controllerFits};
-ghost use Rattle.clock.specs.Clock.{isReset, resetDevice, isCut, servedOf, advancedOf, imageAfter};
+ghost use Rattle.soundness.specs.Sound.{soundOf, controllerFits};
+ghost use Rattle.clock.specs.Clock.{resetDevice, isCut, servedOf, deviceClock, imageAfter};
 ghost use Rattle.clock.specs.Eventless.{isEventless};
-ghost use Rattle.clock.specs.Step.{steppedOf, storedOf};
 
 // What happened on a clock, beside the device: the effect on the array, the judgement that was made, and whether an
 // operation finished or was cut off. Which one it was is read off the device before it.
-pub struct Told {
+pub struct Happened {
     pub effect: Effect,
     pub verdict: Verdict,
     pub finished: bool,
     pub cut: bool,
 }
 
-pub struct Advanced {
+pub struct DeviceClocked {
     pub device: Device,
     pub answer: u8,
-    pub told: Told,
-}
-
-pub fn is_reset(sample: u16) -> bool
-    ensures { λ r. ⌜ r ≡ isReset sample ⌝ }
-{
-    if sample / 32 % 2 == 0 {
-        return true;
-    }
-    sample / 64 % 2 == 0
+    pub happened: Happened,
 }
 
 fn reset_device(d: Device) -> Device
@@ -57,12 +48,7 @@ fn reset_device(d: Device) -> Device
     let rest = reset(c);
     let mut next = d;
     next.locks = [1; 16];
-    let none = Frame {
-        kind: 0,
-        clock: 0,
-        byte: 0,
-        address: 0,
-    };
+    let none = idle_frame();
     next.frame = none;
     next.controller = rest;
     next
@@ -83,7 +69,7 @@ fn serve(d: Device, image: &[u8], sample: u16) -> Reached
             verdict: Verdict::Unjudged,
         },
         Asked::Read(address) => {
-            let at = (address % 1048576) as usize;
+            let at = array_address(address) as usize;
             let v = value(next, sample, address, image[at]);
             let mut fixed = frame;
             fixed.byte = v;
@@ -101,7 +87,7 @@ fn serve(d: Device, image: &[u8], sample: u16) -> Reached
 fn is_eventless(d: Device, sample: u16) -> bool
     ensures { λ r. ⌜ r ≡ isEventless d sample ⌝ }
 {
-    if sample / 16 % 2 == 0 {
+    if frame_line(sample) == 0 {
         return false;
     }
     if d.frame.kind == 0 {
@@ -113,17 +99,17 @@ fn is_eventless(d: Device, sample: u16) -> bool
 }
 
 // One clock of a sound device on a whole image. It has no refusals.
-pub fn advance(d: Device, image: &mut [u8], sample: u16) -> Advanced
+pub fn clock_device(d: Device, image: &mut [u8], sample: u16) -> DeviceClocked
     requires { ⌜ soundOf d ≡ true ⌝ }
     requires { ⌜ length (now image) ≡ 1048576 ⌝ }
-    ensures { λ r. ⌜ (r ≡ advancedOf d (now (image .entry)) sample)
+    ensures { λ r. ⌜ (r ≡ deviceClock d (now (image .entry)) sample)
         × (now (image .exit) ≡ imageAfter d (now (image .entry)) sample) ⌝ }
 {
     if is_reset(sample) {
-        return Advanced {
+        return DeviceClocked {
             device: reset_device(d),
             answer: 0,
-            told: Told {
+            happened: Happened {
                 effect: Effect::Nothing,
                 verdict: Verdict::Unjudged,
                 finished: false,
@@ -132,10 +118,10 @@ pub fn advance(d: Device, image: &mut [u8], sample: u16) -> Advanced
         };
     }
     if is_eventless(d, sample) {
-        return Advanced {
+        return DeviceClocked {
             device: d,
             answer: 0,
-            told: Told {
+            happened: Happened {
                 effect: Effect::Nothing,
                 verdict: Verdict::Unjudged,
                 finished: false,
@@ -144,67 +130,24 @@ pub fn advance(d: Device, image: &mut [u8], sample: u16) -> Advanced
         };
     }
     let c = d.controller;
-    let k = count(c);
-    let counted = k.controller;
+    let k = clock_controller(c);
+    let controllerClocked = k.controller;
     let effect = k.effect;
     apply(effect, image);
     let mut next = d;
-    next.controller = counted;
+    next.controller = controllerClocked;
     let r = serve(next, image, sample);
     let device = r.device;
     let verdict = r.verdict;
     let frame = device.frame;
-    Advanced {
+    DeviceClocked {
         device,
         answer: drive(frame),
-        told: Told {
+        happened: Happened {
             effect,
             verdict,
             finished: k.finished,
             cut: false,
         },
-    }
-}
-
-// The numbered answer of a step, its answer byte and the next device.
-#[repr(C)]
-pub struct Stepped {
-    pub number: u32,
-    pub answer: u32,
-    pub device: Device,
-}
-
-// Step: a device, the image and one sample.
-pub fn step(device: Device, image: &mut [u8], sample: u16) -> Stepped
-    ensures { λ r. ⌜ (r ≡ steppedOf device (now (image .entry)) sample)
-        × (now (image .exit) ≡ storedOf device (now (image .entry)) sample) ⌝ }
-{
-    if sound(device) {
-        if image.len() == Part::BYTES {
-            if sample / 512 % 4 == 3 {
-                return Stepped {
-                    number: 7,
-                    answer: 0,
-                    device,
-                };
-            }
-            let a = advance(device, image, sample);
-            let next = a.device;
-            return Stepped {
-                number: 0,
-                answer: a.answer as u32,
-                device: next,
-            };
-        }
-        return Stepped {
-            number: 2,
-            answer: 0,
-            device,
-        };
-    }
-    Stepped {
-        number: 1,
-        answer: 0,
-        device,
     }
 }

@@ -6,29 +6,29 @@ use native.Mathlib.Omega.{arith}
 use lib.Dec.{eqb, ltb, leb}
 use lib.Bits.{bitAnd, bitOr, and-le-r}
 use borrow.Author.Tests.{ltb-true, eqb-true, eqb-false, eq-eqb, ne-eqb, lt-ltb}
-use Rattle.laws.specs.All.{all}
-use Rattle.laws.proofs.Rules.{Answer, yes, no, ask, clash}
-use Rattle.laws.proofs.All.{holds, also, none}
-use Rattle.laws.proofs.Table.{at}
+use Rattle.basics.specs.All.{all}
+use Rattle.basics.proofs.Rules.{Answer, yes, no, ask, clash}
+use Rattle.basics.proofs.All.{holds, also, none}
+use Rattle.basics.proofs.Table.{at}
 use Rattle.units.specs.declared.Times.{Times}
 use Rattle.units.specs.Units.{clocks, inClocks, timesFit}
 use Rattle.units.proofs.Ranges.{Ranges, ranges}
 use Rattle.record.specs.declared.Operation.{Operation}
 use Rattle.record.specs.declared.Controller.{Controller}
 use Rattle.record.specs.Record.{isAbsent, isProgram, isErase, isRunning, isPausing, isSuspended, withPause, blockOf, controller}
-use Rattle.device.specs.declared.Condition.{Condition}
-use Rattle.device.specs.declared.Condition.the-variants.{Ready, Running, Pausing, ProgramSuspended, EraseSuspended, ProgramInside}
-use Rattle.device.specs.Status.{conditionOf}
-use Rattle.device.specs.Sound.{counts, leftFits, stateFits, operationFits, outerFits, apart, inside, innerFits, setupKinds, controllerFits}
-use Rattle.device.proofs.Clauses.{Clauses, clauses, made}
+use Rattle.status.specs.declared.Condition.{Condition}
+use Rattle.status.specs.declared.Condition.the-variants.{Ready, Running, Pausing, ProgramSuspended, EraseSuspended, ProgramInside}
+use Rattle.status.specs.Status.{conditionOf}
+use Rattle.soundness.specs.Sound.{counts, leftFits, stateFits, operationFits, outerFits, apart, inside, innerFits, setupKinds, controllerFits}
+use Rattle.soundness.proofs.Clauses.{Clauses, clauses, made}
 use Rattle.operation.proofs.Facts.{fits, outer-fits}
 use Rattle.operation.proofs.Kept.{count-full, restate, none-inside, suspended-else, unset-made}
 use Rattle.command.specs.declared.Action.{Action}
 use Rattle.command.specs.declared.Action.the-variants.{Array, Status, Signature, Clear, Program, Erase, Pause, Resume, Nothing}
-use Rattle.command.specs.declared.Judgement.{Judgement}
-use Rattle.command.specs.declared.Judgement.the-variants.{Granted, Voltage, Pin, Lock, Suspended}
+use Rattle.permission.specs.declared.Judgement.{Judgement}
+use Rattle.permission.specs.declared.Judgement.the-variants.{Granted, Voltage, Pin, Lock, Suspended}
 use Rattle.command.specs.Commands.{rowOf, columnOf, actionAt, actionOf, acted}
-use Rattle.command.specs.Permission.{intoSuspended, judged, pinLow}
+use Rattle.permission.specs.Permission.{intoSuspended, judged, pinLow}
 use Rattle.command.specs.Setup.{acceptedOf, starting, failing, answered, unconfirmed, writtenOf}
 
 -- what a condition says of the operations

@@ -10,8 +10,8 @@ use Rattle.units.specs.Units.{inClocks}
 use Rattle.record.specs.declared.Operation.{Operation}
 use Rattle.record.specs.declared.Controller.{Controller}
 use Rattle.record.specs.Record.{withPause, controller}
-use Rattle.device.specs.declared.Condition.{Condition}
-use Rattle.device.specs.declared.Condition.the-variants.{Ready, Running, Pausing, ProgramSuspended, EraseSuspended, ProgramInside}
+use Rattle.status.specs.declared.Condition.{Condition}
+use Rattle.status.specs.declared.Condition.the-variants.{Ready, Running, Pausing, ProgramSuspended, EraseSuspended, ProgramInside}
 use Rattle.command.specs.declared.Action.{Action}
 use Rattle.command.specs.declared.Action.the-variants.{Array, Status, Signature, Clear, Program, Erase, Pause, Resume, Nothing}
 

@@ -8,14 +8,14 @@ use Rattle.units.specs.Units.{clocks, inClocks}
 use Rattle.record.specs.declared.Operation.{Operation}
 use Rattle.record.specs.declared.Controller.{Controller}
 use Rattle.record.specs.Record.{isAbsent, controller}
-use Rattle.device.specs.Status.{conditionOf}
-use Rattle.command.specs.declared.Judgement.{Judgement}
-use Rattle.command.specs.declared.Judgement.the-variants.{Granted, Voltage, Pin, Lock, Suspended}
+use Rattle.status.specs.Status.{conditionOf}
+use Rattle.permission.specs.declared.Judgement.{Judgement}
+use Rattle.permission.specs.declared.Judgement.the-variants.{Granted, Voltage, Pin, Lock, Suspended}
 use Rattle.command.specs.declared.Verdict.{Verdict}
 use Rattle.command.specs.declared.Verdict.the-variants.{Unjudged, Judged}
 use Rattle.command.specs.declared.Written.{Written}
 use Rattle.command.specs.Commands.{actionOf, acted}
-use Rattle.command.specs.Permission.{judged}
+use Rattle.permission.specs.Permission.{judged}
 
 -- the operation is accepted with data, block and times copied, all of its clocks still to come
 unfoldable pub acceptedOf : Times → ℕ → ℕ → ℕ → Operation

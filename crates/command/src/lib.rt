@@ -1,18 +1,17 @@
-// What the part does with a byte that is written to the array: the command table, setups and the judgement of a
-// permission. It knows nothing of frames.
-use device::Condition;
-use device::condition_of;
-use part::Part;
-use part::block_of;
+// What the part does with a byte that is written to the array: the command table and the setups. It knows nothing of
+// frames.
+use permission::Judgement;
+use permission::judge;
 use record::Controller;
 use record::Operation;
+use status::Condition;
+use status::condition_of;
 use units::Clocks;
 use units::Times;
 use units::in_clocks;
 ghost use mathlib.Core.Path.{_≡_};
 ghost use Prim.Native.Nat.{_<_};
 ghost use Rattle.command.specs.Commands.{rowOf, columnOf, actionOf, acted};
-ghost use Rattle.command.specs.Permission.{pinLow, intoSuspended, judged};
 ghost use Rattle.command.specs.Setup.{acceptedOf, starting, failing, answered, unconfirmed, writtenOf};
 
 // The actions of the command table: A, S, G, C, P, E, Z, R and none.
@@ -189,58 +188,6 @@ pub fn act(a: Action, c: Controller) -> Controller
         }
         Action::Nothing => c,
     }
-}
-
-// Why an operation may not start, or that it may.
-pub enum Judgement {
-    Granted,
-    Voltage,
-    Pin,
-    Lock,
-    Suspended,
-}
-
-fn is_pin_low(sample: u16, block: u32) -> bool
-    ensures { λ r. ⌜ r ≡ pinLow sample block ⌝ }
-{
-    if block == Part::TOP_BLOCK {
-        return sample / 128 % 2 == 0;
-    }
-    sample / 256 % 2 == 0
-}
-
-fn is_into_suspended(setup: u8, outer: Operation, address: u32) -> bool
-    ensures { λ r. ⌜ r ≡ intoSuspended setup outer address ⌝ }
-{
-    if setup == 1 {
-        if outer.kind == 2 {
-            if outer.state == 2 {
-                return block_of(outer.address) == block_of(address);
-            }
-            return false;
-        }
-        return false;
-    }
-    false
-}
-
-// The permission, judged once: by the sample of the write that ends the setup and the lock register of its block.
-pub fn judge(setup: u8, outer: Operation, sample: u16, lock: u8, address: u32) -> Judgement
-    ensures { λ r. ⌜ r ≡ judged setup outer sample lock address ⌝ }
-{
-    if sample / 512 % 4 == 0 {
-        return Judgement::Voltage;
-    }
-    if is_pin_low(sample, block_of(address)) {
-        return Judgement::Pin;
-    }
-    if lock % 2 == 1 {
-        return Judgement::Lock;
-    }
-    if is_into_suspended(setup, outer, address) {
-        return Judgement::Suspended;
-    }
-    Judgement::Granted
 }
 
 // An operation as it is accepted, with data, block and times copied.

@@ -9,13 +9,14 @@ use lib.Dec.{eqb, ltb}
 use lib.ListN.{length, getD, set, take, drop, replicate, length-append, length-take, length-drop, length-set, length-replicate, getD-replicate, List·getD-append}
 use lib.Seq.{length-take-le, getD-take, getD-drop, getD-append-add, getD-set-other, drop-set-add, take-set-lt, ext-getD}
 use borrow.Author.Tests.{ltb-true, ltb-false, lt-ltb, le-ltb, eqb-true, eqb-false}
-use Rattle.laws.proofs.Rules.{Answer, yes, no, ask}
+use Rattle.basics.proofs.Rules.{Answer, yes, no, ask}
 use Rattle.record.specs.declared.Operation.{Operation}
 use Rattle.record.specs.Record.{isAbsent, isProgram, blockOf}
 use Rattle.effect.specs.declared.Effect.{Effect}
 use Rattle.effect.specs.declared.Effect.the-variants.{Nothing, Program, Fill}
-use Rattle.effect.specs.Effect.{filled, within, inBlock, applied}
-use Rattle.device.specs.Sound.{operationFits}
+use Rattle.basics.specs.Bytes.{filled}
+use Rattle.effect.specs.Effect.{fitsIn, inBlock, applied}
+use Rattle.soundness.specs.Sound.{operationFits}
 use Rattle.operation.specs.Clock.{sliceAt}
 use Rattle.operation.specs.Whole.{rest}
 use Rattle.operation.proofs.Facts.{Fits, fits, Slices, slices}
@@ -63,7 +64,7 @@ contents-at b d i h = getD-take 65536 (drop (b * 65536) d) i 0 h ∙ getD-drop (
 -- an effect leaves the bytes outside its block
 applied-at : (b : ℕ) (e : Effect) (d : List ℕ) (j : ℕ)
     → inBlock b e
-    → within e (length d)
+    → fitsIn e (length d)
     → (b * 65536 ≤ j → j < b * 65536 + 65536 → ⊥)
     → getD (applied e d) j 0 ≡ getD d j 0
 applied-at b Nothing d j i w n = refl
@@ -78,7 +79,7 @@ applied-at b (Fill s c v) d j i w n = pick (ask (ltb j s)) (ask (ltb j (s + c)))
         absurd (n (omega arith) (omega arith))
     pick (no l) (no u) = above d s c v j w (ltb-false j (s + c) u)
 
-pub inside-image : (b : ℕ) (e : Effect) (n : ℕ) → b < 16 → n ≡ 1048576 → inBlock b e → within e n
+pub inside-image : (b : ℕ) (e : Effect) (n : ℕ) → b < 16 → n ≡ 1048576 → inBlock b e → fitsIn e n
 inside-image b Nothing n h l i = tt
 inside-image b (Program a v) n h l i = omega arith
 inside-image b (Fill s c v) n h l i = omega arith

@@ -8,23 +8,23 @@ use native.Mathlib.Omega.{arith}
 use lib.Dec.{eqb, ltb}
 use lib.ListN.{length}
 use borrow.Author.Tests.{ltb-true, eqb-true, eqb-false, eq-eqb, ne-eqb, not-true}
-use Rattle.laws.proofs.Rules.{Answer, yes, no, ask, clash}
-use Rattle.laws.proofs.All.{holds}
+use Rattle.basics.proofs.Rules.{Answer, yes, no, ask, clash}
+use Rattle.basics.proofs.All.{holds}
 use Rattle.units.specs.Units.{clocks, inClocks}
 use Rattle.record.specs.declared.Operation.{Operation}
 use Rattle.record.specs.declared.Controller.{Controller}
 use Rattle.record.specs.Record.{isAbsent, isProgram, isErase, isRunning, isSuspended, withLeft, absent, blockOf}
 use Rattle.effect.specs.declared.Effect.{Effect}
 use Rattle.effect.specs.Effect.{applied, inBlock}
-use Rattle.device.specs.Sound.{operationFits, apart, inside, innerFits, controllerFits}
-use Rattle.device.proofs.Clauses.{Clauses, clauses}
+use Rattle.soundness.specs.Sound.{operationFits, apart, inside, innerFits, controllerFits}
+use Rattle.soundness.proofs.Clauses.{Clauses, clauses}
 use Rattle.operation.specs.Marks.{marked, clearing}
-use Rattle.operation.specs.Clock.{active, isStill, pausedOf, tickedOf, marksAfter, replaced, countedOf}
+use Rattle.operation.specs.Clock.{active, isStill, pausedOf, operationClock, marksAfter, replaced, controllerClock}
 use Rattle.operation.specs.Whole.{rest}
 use Rattle.operation.proofs.Facts.{fits, outer-fits, inner-fits, moving}
-use Rattle.operation.proofs.Within.{ticked-in}
+use Rattle.operation.proofs.FitsIn.{operation-clock-in}
 use Rattle.operation.proofs.Kept.{Same, paused-same}
-use Rattle.operation.proofs.Rest.{ticked-rest}
+use Rattle.operation.proofs.Rest.{operation-clock-rest}
 use Rattle.operation.proofs.Marked.{clearing-other}
 use Rattle.demands.specs.History.{isOn, opOf, isLast, contents}
 use Rattle.clock.proofs.Kept.{applied-length}
@@ -41,17 +41,17 @@ itself o = record { kind = refl; address = refl; byte = refl }
 
 -- one clock of an operation that counts
 data Tick (o : Operation) : Type 0 where
-  over : isLast o ≡ true → tickedOf o .operation ≡ absent → tickedOf o .finished ≡ true → Tick o
-  on : isLast o ≡ false → tickedOf o .finished ≡ false → Like o (tickedOf o .operation) → Tick o
+  over : isLast o ≡ true → operationClock o .operation ≡ absent → operationClock o .finished ≡ true → Tick o
+  on : isLast o ≡ false → operationClock o .finished ≡ false → Like o (operationClock o .operation) → Tick o
 
 -- what counts is not suspended
 stirring : (o : Operation) → isStill o ≡ false → isSuspended o ≡ false
 unfolding isStill
 stirring o e = rw (moving o e) at e
 
-tick : (o : Operation) → isStill o ≡ false → Tick o
-unfolding tickedOf isLast
-tick o m = pick (ask (ltb 1 (o .left .0))) (ask (isProgram o)) (ask (ltb 1 (o .slices)))
+clock_operation : (o : Operation) → isStill o ≡ false → Tick o
+unfolding operationClock isLast
+clock_operation o m = pick (ask (ltb 1 (o .left .0))) (ask (isProgram o)) (ask (ltb 1 (o .slices)))
   where
     a : isAbsent o ≡ false
     a = moving o m
@@ -89,17 +89,17 @@ absent-last = refl
 -- the controller's part of a clock, seen from a block
 pub data Counting (b : ℕ) (c : Controller) (d : List ℕ) : Type 0 where
   goes : isLast (opOf b c) ≡ false
-      → isAbsent (opOf b (countedOf c .controller)) ≡ isAbsent (opOf b c)
-      → Like (opOf b c) (opOf b (countedOf c .controller))
-      → contents b (rest (opOf b (countedOf c .controller)) (applied (countedOf c .effect) d)) ≡ contents b (rest (opOf b c) d)
-      → marked (countedOf c .controller .marks) b ≡ marked (c .marks) b
+      → isAbsent (opOf b (controllerClock c .controller)) ≡ isAbsent (opOf b c)
+      → Like (opOf b c) (opOf b (controllerClock c .controller))
+      → contents b (rest (opOf b (controllerClock c .controller)) (applied (controllerClock c .effect) d)) ≡ contents b (rest (opOf b c) d)
+      → marked (controllerClock c .controller .marks) b ≡ marked (c .marks) b
       → Counting b c d
   ends : isStill (active c) ≡ false
       → isLast (opOf b c) ≡ true
       → isAbsent (opOf b c) ≡ false
-      → isAbsent (opOf b (countedOf c .controller)) ≡ true
-      → contents b (applied (countedOf c .effect) d) ≡ contents b (rest (opOf b c) d)
-      → (isErase (opOf b c) ≡ false → marked (countedOf c .controller .marks) b ≡ marked (c .marks) b)
+      → isAbsent (opOf b (controllerClock c .controller)) ≡ true
+      → contents b (applied (controllerClock c .effect) d) ≡ contents b (rest (opOf b c) d)
+      → (isErase (opOf b c) ≡ false → marked (controllerClock c .controller .marks) b ≡ marked (c .marks) b)
       → Counting b c d
 
 -- a block's operation, by where it stands
@@ -170,11 +170,11 @@ marks-other m b o true h l n = pick (ask (isErase o))
     pick (no k) = rw k
 
 -- a clock of an operation leaves the image's length
-size : (o : Operation) (d : List ℕ) → operationFits o ≡ true → length d ≡ 1048576 → length (applied (tickedOf o .effect) d) ≡ 1048576
+size : (o : Operation) (d : List ℕ) → operationFits o ≡ true → length d ≡ 1048576 → length (applied (operationClock o .effect) d) ≡ 1048576
 size o d f l =
     let w = fits o f in
     let hk : blockOf (o .address) < 16 = omega arith in
-    applied-length (tickedOf o .effect) d (inside-image (blockOf (o .address)) (tickedOf o .effect) (length d) hk l (ticked-in o f)) ∙ l
+    applied-length (operationClock o .effect) d (inside-image (blockOf (o .address)) (operationClock o .effect) (length d) hk l (operation-clock-in o f)) ∙ l
 
 -- the operation that counts is the block's own
 turning : (b : ℕ) (c : Controller) (d : List ℕ) (o : Operation)
@@ -183,24 +183,24 @@ turning : (b : ℕ) (c : Controller) (d : List ℕ) (o : Operation)
     → operationFits o ≡ true
     → isStill o ≡ false
     → isStill (active c) ≡ false
-    → countedOf c .effect ≡ tickedOf o .effect
-    → countedOf c .controller .marks ≡ marksAfter (c .marks) o (tickedOf o .finished)
-    → (tickedOf o .operation ≡ absent → opOf b (countedOf c .controller) ≡ absent)
-    → (Like o (tickedOf o .operation) → opOf b (countedOf c .controller) ≡ tickedOf o .operation)
+    → controllerClock c .effect ≡ operationClock o .effect
+    → controllerClock c .controller .marks ≡ marksAfter (c .marks) o (operationClock o .finished)
+    → (operationClock o .operation ≡ absent → opOf b (controllerClock c .controller) ≡ absent)
+    → (Like o (operationClock o .operation) → opOf b (controllerClock c .controller) ≡ operationClock o .operation)
     → length d ≡ 1048576
     → Counting b c d
-turning b c d o e a f m w x y g k l = pick (tick o m)
+turning b c d o e a f m w x y g k l = pick (clock_operation o m)
   where
-    r : rest (tickedOf o .operation) (applied (tickedOf o .effect) d) ≡ rest o d
-    r = ticked-rest o d f a l
+    r : rest (operationClock o .operation) (applied (operationClock o .effect) d) ≡ rest o d
+    r = operation-clock-rest o d f a l
 
     pick : Tick o → Counting b c d
     pick (over t n q) =
-        let z = ap (λ (v : Operation). rest v (applied (tickedOf o .effect) d)) n ∙ absent-rest absent (applied (tickedOf o .effect) d) refl in
+        let z = ap (λ (v : Operation). rest v (applied (operationClock o .effect) d)) n ∙ absent-rest absent (applied (operationClock o .effect) d) refl in
         ends w (rw e t) (rw e a) (rw (g n)) (rw (x, e) (ap (contents b) (sym z ∙ r)))
-        (λ v. rw y (ap (λ (u : ℕ). marked u b) (marks-program (c .marks) o (tickedOf o .finished) (rw e at v))))
+        (λ v. rw y (ap (λ (u : ℕ). marked u b) (marks-program (c .marks) o (operationClock o .finished) (rw e at v))))
     pick (on t q n) =
-        goes (rw e t) (rw (e, k n) (like-absent o (tickedOf o .operation) n)) (rw (e, k n) n)
+        goes (rw e t) (rw (e, k n) (like-absent o (operationClock o .operation) n)) (rw (e, k n) n)
         (rw (e, k n, x) (ap (contents b) r))
         (rw (y, q) (ap (λ (u : ℕ). marked u b) (marks-on (c .marks) o)))
 
@@ -208,25 +208,25 @@ turning b c d o e a f m w x y g k l = pick (tick o m)
 elsewhere : (b : ℕ) (c : Controller) (d : List ℕ) (o p : Operation)
     → b < 16
     → opOf b c ≡ p
-    → opOf b (countedOf c .controller) ≡ p
+    → opOf b (controllerClock c .controller) ≡ p
     → isLast p ≡ false
     → (isAbsent p ≡ false → (operationFits p ≡ true) × (blockOf (p .address) ≡ b))
     → operationFits o ≡ true
     → (b ≡ blockOf (o .address) → ⊥)
-    → countedOf c .effect ≡ tickedOf o .effect
-    → countedOf c .controller .marks ≡ marksAfter (c .marks) o (tickedOf o .finished)
+    → controllerClock c .effect ≡ operationClock o .effect
+    → controllerClock c .controller .marks ≡ marksAfter (c .marks) o (operationClock o .finished)
     → length d ≡ 1048576
     → Counting b c d
 elsewhere b c d o p h e e' t q f n x y l =
     let w = fits o f in
     let hk : blockOf (o .address) < 16 = omega arith in
-    let z = contents-other b (blockOf (o .address)) (tickedOf o .effect) d h hk n l (ticked-in o f) in
+    let z = contents-other b (blockOf (o .address)) (operationClock o .effect) d h hk n l (operation-clock-in o f) in
     goes (rw e t) (rw (e, e')) (rw (e, e') (itself p)) (rw (e, e', x) (kept (ask (isAbsent p)) z))
-    (rw y (marks-other (c .marks) b o (tickedOf o .finished) h hk n))
+    (rw y (marks-other (c .marks) b o (operationClock o .finished) h hk n))
   where
-    kept : Answer (isAbsent p) → contents b (applied (tickedOf o .effect) d) ≡ contents b d → contents b (rest p (applied (tickedOf o .effect) d)) ≡ contents b (rest p d)
-    kept (yes a) z = rw (absent-rest p (applied (tickedOf o .effect) d) a, absent-rest p d a) z
-    kept (no a) z = contents-rest b p (applied (tickedOf o .effect) d) h (q a .0) (q a .1) (size o d f l) ∙ ap (restIn p) z ∙ sym (contents-rest b p d h (q a .0) (q a .1) l)
+    kept : Answer (isAbsent p) → contents b (applied (operationClock o .effect) d) ≡ contents b d → contents b (rest p (applied (operationClock o .effect) d)) ≡ contents b (rest p d)
+    kept (yes a) z = rw (absent-rest p (applied (operationClock o .effect) d) a, absent-rest p d a) z
+    kept (no a) z = contents-rest b p (applied (operationClock o .effect) d) h (q a .0) (q a .1) (size o d f l) ∙ ap (restIn p) z ∙ sym (contents-rest b p d h (q a .0) (q a .1) l)
 
 -- the operation that counts, and the one beside it: with no program inside the outer and the inner, else the other way
 abbrev own : Bool → Controller → Operation
@@ -243,13 +243,13 @@ active-own true c i = rw i
 active-own false c i = rw i
 
 record Turn (t : Bool) (c : Controller) : Type 0 where
-  next : own t (countedOf c .controller) ≡ tickedOf (own t c) .operation
-  side : beside t (countedOf c .controller) ≡ beside t c
-  effect : countedOf c .effect ≡ tickedOf (own t c) .effect
-  marks : countedOf c .controller .marks ≡ marksAfter (c .marks) (own t c) (tickedOf (own t c) .finished)
+  next : own t (controllerClock c .controller) ≡ operationClock (own t c) .operation
+  side : beside t (controllerClock c .controller) ≡ beside t c
+  effect : controllerClock c .effect ≡ operationClock (own t c) .effect
+  marks : controllerClock c .controller .marks ≡ marksAfter (c .marks) (own t c) (operationClock (own t c) .finished)
 
 turn : (t : Bool) (c : Controller) → isAbsent (c .inner) ≡ t → isStill (own t c) ≡ false → Turn t c
-unfolding countedOf replaced
+unfolding controllerClock replaced
 turn true c i m =
     let a = active-own true c i in
     record { next = rw (a, m, i); side = rw (a, m, i); effect = rw (a, m); marks = rw (a, m, i) }
@@ -259,7 +259,7 @@ turn false c i m =
 
 -- nothing counts
 resting-on : (b : ℕ) (c : Controller) (d : List ℕ) → isStill (active c) ≡ true → isLast (opOf b c) ≡ false → Counting b c d
-unfolding countedOf
+unfolding controllerClock
 resting-on b c d m l = goes l (rw m) (rw m (itself (opOf b c))) (rw m) (rw m)
 
 -- a program inside a suspended erase, and the erase
@@ -308,23 +308,23 @@ alone b c d h e l i = pick (ask (isStill (c .outer))) (ask (isOn b (c .outer)))
     quiet m (yes x) = rw (on-outer b c x) (still-last (c .outer) m)
     quiet m (no x) = rw (on-none b c x side) absent-last
 
-    gone-off : Tick (c .outer) → isOn b (c .outer) ≡ false → isOn b (tickedOf (c .outer) .operation) ≡ false
+    gone-off : Tick (c .outer) → isOn b (c .outer) ≡ false → isOn b (operationClock (c .outer) .operation) ≡ false
     gone-off (over t n q) x = rw n (off-none b)
-    gone-off (on t q n) x = like-on b (c .outer) (tickedOf (c .outer) .operation) n ∙ x
+    gone-off (on t q n) x = like-on b (c .outer) (operationClock (c .outer) .operation) n ∙ x
 
     pick : Answer (isStill (c .outer)) → Answer (isOn b (c .outer)) → Counting b c d
     pick (yes m) x = resting-on b c d (rw (active-own true c i) m) (quiet m x)
     pick (no m) (yes x) =
         let f = outer-fits c e (moving (c .outer) m) in
         turning b c d (c .outer) (on-outer b c x) (moving (c .outer) m) f m (rw (active-own true c i) m) (turn true c i m .effect) (turn true c i m .marks)
-        (λ g. on-none b (countedOf c .controller) (rw (turn true c i m .next, g) (off-none b)) (rw (turn true c i m .side) side))
-        (λ k. on-outer b (countedOf c .controller) (rw (turn true c i m .next) (like-on b (c .outer) _ k ∙ x)) ∙ turn true c i m .next)
+        (λ g. on-none b (controllerClock c .controller) (rw (turn true c i m .next, g) (off-none b)) (rw (turn true c i m .side) side))
+        (λ k. on-outer b (controllerClock c .controller) (rw (turn true c i m .next) (like-on b (c .outer) _ k ∙ x)) ∙ turn true c i m .next)
         l
     pick (no m) (no x) =
         let a = moving (c .outer) m in
         let f = outer-fits c e a in
         elsewhere b c d (c .outer) absent h (on-none b c x side)
-        (on-none b (countedOf c .controller) (rw (turn true c i m .next) (gone-off (tick (c .outer) m) x)) (rw (turn true c i m .side) side))
+        (on-none b (controllerClock c .controller) (rw (turn true c i m .next) (gone-off (clock_operation (c .outer) m) x)) (rw (turn true c i m .side) side))
         absent-last (λ z. clash (sym z)) f (off-there b (c .outer) a x) (turn true c i m .effect) (turn true c i m .marks) l
 
 -- a clock with one
@@ -342,26 +342,26 @@ inside-erase b c d h e l i = pick (ask (isOn b (c .outer))) (ask (isOn b (c .inn
     m : isStill (c .inner) ≡ false
     m = n .moves
 
-    gone-off : Tick (c .inner) → isOn b (c .inner) ≡ false → isOn b (tickedOf (c .inner) .operation) ≡ false
+    gone-off : Tick (c .inner) → isOn b (c .inner) ≡ false → isOn b (operationClock (c .inner) .operation) ≡ false
     gone-off (over t g q) x = rw g (off-none b)
-    gone-off (on t q k) x = like-on b (c .inner) (tickedOf (c .inner) .operation) k ∙ x
+    gone-off (on t q k) x = like-on b (c .inner) (operationClock (c .inner) .operation) k ∙ x
 
     pick : Answer (isOn b (c .outer)) → Answer (isOn b (c .inner)) → Counting b c d
     pick (yes x) y =
         let f = outer-fits c e (n .there) in
         let k = on-here b (c .outer) x .1 in
         elsewhere b c d (c .inner) (c .outer) h (on-outer b c x)
-        (on-outer b (countedOf c .controller) (rw (turn false c i m .side) x) ∙ turn false c i m .side)
+        (on-outer b (controllerClock c .controller) (rw (turn false c i m .side) x) ∙ turn false c i m .side)
         (suspended-last (c .outer) (n .there) (n .rests)) (λ z. (f, k)) (n .sound) (λ z. n .apart-from (k ∙ z))
         (turn false c i m .effect) (turn false c i m .marks) l
     pick (no x) (yes y) =
         turning b c d (c .inner) (on-inner b c x y) i (n .sound) m (rw (active-own false c i) m) (turn false c i m .effect) (turn false c i m .marks)
-        (λ g. on-none b (countedOf c .controller) (rw (turn false c i m .side) x) (rw (turn false c i m .next, g) (off-none b)))
-        (λ k. on-inner b (countedOf c .controller) (rw (turn false c i m .side) x) (rw (turn false c i m .next) (like-on b (c .inner) _ k ∙ y)) ∙ turn false c i m .next)
+        (λ g. on-none b (controllerClock c .controller) (rw (turn false c i m .side) x) (rw (turn false c i m .next, g) (off-none b)))
+        (λ k. on-inner b (controllerClock c .controller) (rw (turn false c i m .side) x) (rw (turn false c i m .next) (like-on b (c .inner) _ k ∙ y)) ∙ turn false c i m .next)
         l
     pick (no x) (no y) =
         elsewhere b c d (c .inner) absent h (on-none b c x y)
-        (on-none b (countedOf c .controller) (rw (turn false c i m .side) x) (rw (turn false c i m .next) (gone-off (tick (c .inner) m) y)))
+        (on-none b (controllerClock c .controller) (rw (turn false c i m .side) x) (rw (turn false c i m .next) (gone-off (clock_operation (c .inner) m) y)))
         absent-last (λ z. clash (sym z)) (n .sound) (off-there b (c .inner) i y) (turn false c i m .effect) (turn false c i m .marks) l
 
 pub counting : (b : ℕ) (c : Controller) (d : List ℕ) → b < 16 → controllerFits c ≡ true → length d ≡ 1048576 → Counting b c d

@@ -8,23 +8,22 @@ use native.Mathlib.Nat.{not-suc-le-zero}
 use lib.Dec.{eqb, ltb}
 use lib.ListN.{length}
 use borrow.Author.Tests.{eqb-true, eqb-false, ne-eqb}
-use Rattle.laws.proofs.Rules.{Answer, yes, no, ask, clash}
+use Rattle.basics.proofs.Rules.{Answer, yes, no, ask, clash}
 use Rattle.units.specs.Units.{times, timesFit}
 use Rattle.record.specs.declared.Device.{Device}
-use Rattle.record.specs.Sample.{voltage}
-use Rattle.device.specs.Sound.{soundOf}
-use Rattle.device.specs.Power.{refusal, poweredUp, timesSet}
-use Rattle.clock.specs.Step.{stepNumber, steppedOf, storedOf}
+use Rattle.record.specs.Sample.{voltage, isIdleSample, samples}
+use Rattle.soundness.specs.Sound.{soundOf}
+use Rattle.power.specs.Power.{powerRefused, poweredUp, timesSet}
+use Rattle.step.specs.Step.{stepNumber, steppedOf, storedOf}
 use Rattle.clock.specs.Fold.{world, repeated}
-use Rattle.settle.specs.Settle.{settling, isRestless, settleNumber, settledOf, imageSettled}
+use Rattle.settle.specs.Settle.{settling, settleNumber, settledOf, imageSettled}
 use Rattle.settle.proofs.Least.{Least, least}
-use Rattle.glance.specs.Samples.{samples}
 use Rattle.stream.specs.Run.{overvolted, misshapen, runNumber, ranOf}
 use Rattle.sheet.specs.Sheet.{ofLayout, strapsIn, timesIn, readOf, writeOf}
 use Rattle.demands.specs.Demand1.{Call, powerUp, setTimes, step, settle, run, readSheet, writeSheet, stepInPlace, viewBlock, tellStatus, tellMarks, refusals, first, Outcome, outcome, asLent, Numbers, Refused, Ten, Coincide}
 
 pub numbers : Numbers
-unfolding Numbers poweredUp refusal timesSet steppedOf stepNumber settledOf settleNumber ranOf runNumber readOf writeOf
+unfolding Numbers poweredUp powerRefused timesSet steppedOf stepNumber settledOf settleNumber ranOf runNumber readOf writeOf
 numbers (powerUp straps program slice pause) = pick (ask (ltb 15 straps)) (ask (timesFit (times program slice pause)))
   where
     pick : Answer (ltb 15 straps) → Answer (timesFit (times program slice pause)) → outcome (powerUp straps program slice pause) .number ≡ first (refusals (powerUp straps program slice pause))
@@ -44,20 +43,20 @@ numbers (step d image sample) = pick (ask (soundOf d)) (ask (eqb (length image) 
     pick (yes a) (no b) c = rw (a, b)
     pick (yes a) (yes b) (yes c) = rw (a, b, c)
     pick (yes a) (yes b) (no c) = rw (a, b, c)
-numbers (settle d image sample limit) = pick (ask (soundOf d)) (ask (eqb (length image) 1048576)) (ask (eqb (voltage sample) 3)) (ask (isRestless sample)) (ask (settling sample limit 0 (world d image) .ready))
+numbers (settle d image sample limit) = pick (ask (soundOf d)) (ask (eqb (length image) 1048576)) (ask (eqb (voltage sample) 3)) (ask (isIdleSample sample)) (ask (settling sample limit 0 (world d image) .ready))
   where
     pick : Answer (soundOf d)
         → Answer (eqb (length image) 1048576)
         → Answer (eqb (voltage sample) 3)
-        → Answer (isRestless sample)
+        → Answer (isIdleSample sample)
         → Answer (settling sample limit 0 (world d image) .ready)
         → outcome (settle d image sample limit) .number ≡ first (refusals (settle d image sample limit))
     pick (no a) b c i r = rw a
     pick (yes a) (no b) c i r = rw (a, b)
     pick (yes a) (yes b) (yes c) i r = rw (a, b, c)
-    pick (yes a) (yes b) (no c) (yes i) r = rw (a, b, c, i)
-    pick (yes a) (yes b) (no c) (no i) (yes r) = rw (a, b, c, i, r)
-    pick (yes a) (yes b) (no c) (no i) (no r) = rw (a, b, c, i, r)
+    pick (yes a) (yes b) (no c) (no i) r = rw (a, b, c, i)
+    pick (yes a) (yes b) (no c) (yes i) (yes r) = rw (a, b, c, i, r)
+    pick (yes a) (yes b) (no c) (yes i) (no r) = rw (a, b, c, i, r)
 numbers (run image stream answers straps program slice pause) = pick (ask (eqb (length image) 1048576)) (ask (ltb 15 straps)) (ask (timesFit (times program slice pause))) (ask (misshapen stream)) (ask (ltb (length answers) (length stream / 2))) (ask (overvolted (samples stream)))
   where
     pick : Answer (eqb (length image) 1048576)
@@ -103,7 +102,7 @@ below-ten : 10 < 10 → ⊥
 below-ten h = omega arith
 
 pub refused : Refused
-unfolding Refused poweredUp refusal timesSet steppedOf storedOf stepNumber settledOf imageSettled settleNumber ranOf runNumber readOf writeOf
+unfolding Refused poweredUp powerRefused timesSet steppedOf storedOf stepNumber settledOf imageSettled settleNumber ranOf runNumber readOf writeOf
 refused (powerUp straps program slice pause) h l = pick (ask (ltb 15 straps)) (ask (timesFit (times program slice pause))) h l
   where
     pick : Answer (ltb 15 straps) → Answer (timesFit (times program slice pause)) → 0 < outcome (powerUp straps program slice pause) .number → outcome (powerUp straps program slice pause) .number < 10 → outcome (powerUp straps program slice pause) ≡ asLent (powerUp straps program slice pause) (outcome (powerUp straps program slice pause) .number)
@@ -123,20 +122,20 @@ refused (step d image sample) h l = pick (ask (soundOf d)) (ask (eqb (length ima
     pick (yes a) (no b) c h l = rw (a, b)
     pick (yes a) (yes b) (yes c) h l = rw (a, b, c)
     pick (yes a) (yes b) (no c) h l = absurd (not-suc-le-zero (rw (a, b, c) at h))
-refused (settle d image sample limit) h l = pick (ask (soundOf d)) (ask (eqb (length image) 1048576)) (ask (eqb (voltage sample) 3)) (ask (isRestless sample)) (ask (settling sample limit 0 (world d image) .ready)) h l
+refused (settle d image sample limit) h l = pick (ask (soundOf d)) (ask (eqb (length image) 1048576)) (ask (eqb (voltage sample) 3)) (ask (isIdleSample sample)) (ask (settling sample limit 0 (world d image) .ready)) h l
   where
     pick : Answer (soundOf d)
         → Answer (eqb (length image) 1048576)
         → Answer (eqb (voltage sample) 3)
-        → Answer (isRestless sample)
+        → Answer (isIdleSample sample)
         → Answer (settling sample limit 0 (world d image) .ready)
         → 0 < outcome (settle d image sample limit) .number → outcome (settle d image sample limit) .number < 10 → outcome (settle d image sample limit) ≡ asLent (settle d image sample limit) (outcome (settle d image sample limit) .number)
     pick (no a) b c i r h l = rw a
     pick (yes a) (no b) c i r h l = rw (a, b)
     pick (yes a) (yes b) (yes c) i r h l = rw (a, b, c)
-    pick (yes a) (yes b) (no c) (yes i) r h l = rw (a, b, c, i)
-    pick (yes a) (yes b) (no c) (no i) (yes r) h l = absurd (not-suc-le-zero (rw (a, b, c, i, r) at h))
-    pick (yes a) (yes b) (no c) (no i) (no r) h l = absurd (below-ten (rw (a, b, c, i, r) at l))
+    pick (yes a) (yes b) (no c) (no i) r h l = rw (a, b, c, i)
+    pick (yes a) (yes b) (no c) (yes i) (yes r) h l = absurd (not-suc-le-zero (rw (a, b, c, i, r) at h))
+    pick (yes a) (yes b) (no c) (yes i) (no r) h l = absurd (below-ten (rw (a, b, c, i, r) at l))
 refused (run image stream answers straps program slice pause) h l = pick (ask (eqb (length image) 1048576)) (ask (ltb 15 straps)) (ask (timesFit (times program slice pause))) (ask (misshapen stream)) (ask (ltb (length answers) (length stream / 2))) (ask (overvolted (samples stream))) h l
   where
     pick : Answer (eqb (length image) 1048576)
@@ -180,7 +179,7 @@ refused (tellMarks d) h l = absurd (not-suc-le-zero h)
 
 pub ten : Ten
 unfolding Ten settledOf imageSettled settleNumber
-ten d image sample limit n = pick (ask (soundOf d)) (ask (eqb (length image) 1048576)) (ask (eqb (voltage sample) 3)) (ask (isRestless sample)) (ask (settling sample limit 0 (world d image) .ready)) n
+ten d image sample limit n = pick (ask (soundOf d)) (ask (eqb (length image) 1048576)) (ask (eqb (voltage sample) 3)) (ask (isIdleSample sample)) (ask (settling sample limit 0 (world d image) .ready)) n
   where
     w : Least sample limit (world d image) (settling sample limit 0 (world d image))
     w = least sample limit (world d image)
@@ -188,7 +187,7 @@ ten d image sample limit n = pick (ask (soundOf d)) (ask (eqb (length image) 104
     pick : Answer (soundOf d)
         → Answer (eqb (length image) 1048576)
         → Answer (eqb (voltage sample) 3)
-        → Answer (isRestless sample)
+        → Answer (isIdleSample sample)
         → Answer (settling sample limit 0 (world d image) .ready)
         → outcome (settle d image sample limit) .number ≡ 10
         → outcome (settle d image sample limit)
@@ -201,9 +200,9 @@ ten d image sample limit n = pick (ask (soundOf d)) (ask (eqb (length image) 104
     pick (no a) b c i r n = absurd (eqb-false 1 10 refl (rw a at n))
     pick (yes a) (no b) c i r n = absurd (eqb-false 2 10 refl (rw (a, b) at n))
     pick (yes a) (yes b) (yes c) i r n = absurd (eqb-false 7 10 refl (rw (a, b, c) at n))
-    pick (yes a) (yes b) (no c) (yes i) r n = absurd (eqb-false 9 10 refl (rw (a, b, c, i) at n))
-    pick (yes a) (yes b) (no c) (no i) (yes r) n = absurd (eqb-false 0 10 refl (rw (a, b, c, i, r) at n))
-    pick (yes a) (yes b) (no c) (no i) (no r) n = rw (a, b, c, i, r, w .reached, w .exhausted r)
+    pick (yes a) (yes b) (no c) (no i) r n = absurd (eqb-false 9 10 refl (rw (a, b, c, i) at n))
+    pick (yes a) (yes b) (no c) (yes i) (yes r) n = absurd (eqb-false 0 10 refl (rw (a, b, c, i, r) at n))
+    pick (yes a) (yes b) (no c) (yes i) (no r) n = rw (a, b, c, i, r, w .reached, w .exhausted r)
 
 pub coincide : Coincide
 unfolding Coincide

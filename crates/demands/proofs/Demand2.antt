@@ -8,27 +8,27 @@ use lib.Bits.{bitAnd, bitOr, and-le-r}
 use lib.Dec.{eqb, ltb}
 use lib.ListN.{length}
 use borrow.Author.Tests.{eqb-true}
-use Rattle.laws.proofs.Rules.{Answer, yes, no, ask, clash, and-both}
-use Rattle.laws.proofs.Table.{at}
+use Rattle.basics.proofs.Rules.{Answer, yes, no, ask, clash, and-both}
+use Rattle.basics.proofs.Table.{at}
 use Rattle.record.specs.declared.Frame.{Frame}
 use Rattle.record.specs.declared.Controller.{Controller}
 use Rattle.record.specs.declared.Device.{Device}
 use Rattle.record.specs.Record.{isRead, isWrite, blockOf}
-use Rattle.record.specs.Sample.{frameLine}
+use Rattle.record.specs.Sample.{frameLine, isReset}
 use Rattle.part.specs.Fresh.{freshOf}
 use Rattle.effect.specs.Effect.{applied}
-use Rattle.device.specs.declared.Condition.{Condition}
-use Rattle.device.specs.declared.Condition.the-variants.{Ready, Running, Pausing, ProgramSuspended, EraseSuspended, ProgramInside}
-use Rattle.device.specs.Status.{conditionOf, conditionBits, statusOf}
-use Rattle.device.specs.Sound.{soundOf}
-use Rattle.device.proofs.Clauses.{clauses, parts}
-use Rattle.operation.specs.Clock.{active, isStill, tickedOf, countedOf}
+use Rattle.status.specs.declared.Condition.{Condition}
+use Rattle.status.specs.declared.Condition.the-variants.{Ready, Running, Pausing, ProgramSuspended, EraseSuspended, ProgramInside}
+use Rattle.status.specs.Status.{conditionOf, conditionBits, statusOf}
+use Rattle.soundness.specs.Sound.{soundOf}
+use Rattle.soundness.proofs.Clauses.{clauses, parts}
+use Rattle.operation.specs.Clock.{active, isStill, operationClock, controllerClock}
 use Rattle.operation.specs.Reset.{markedBy, resetOf}
 use Rattle.operation.proofs.Facts.{fits, active-fits, moving}
-use Rattle.operation.proofs.Within.{ticked-in}
+use Rattle.operation.proofs.FitsIn.{operation-clock-in}
 use Rattle.bus.specs.Frames.{drivenOf}
 use Rattle.access.specs.Read.{isArray, valueOf}
-use Rattle.clock.specs.Clock.{isReset, resetDevice, advancedOf, imageAfter}
+use Rattle.clock.specs.Clock.{resetDevice, deviceClock, imageAfter}
 use Rattle.clock.proofs.Broken as broken
 use Rattle.demands.specs.History.{contents}
 use Rattle.demands.specs.Demand2.{raised, allHigh, drives, BrokenOffGivesNothing, AnswerByte, StatusBit0, RegistersAnswer, ImageChanges, FreshAsReset}
@@ -68,14 +68,14 @@ driven f = (low (ask (isRead f)) (ask (isWrite f)) (ask (ltb (f .clock) 13)) (as
     some (no r) (yes w) a b (no c) (no d) e h = clash (rw (r, w, c, d) at h)
 
 pub answer-byte : AnswerByte
-unfolding AnswerByte advancedOf resetDevice
+unfolding AnswerByte deviceClock resetDevice
 answer-byte d image sample = (none (ask (isReset sample)), some (ask (isReset sample)))
   where
-    none : Answer (isReset sample) → drives (advancedOf d image sample .device .frame) ≡ false → advancedOf d image sample .answer ≡ 0
+    none : Answer (isReset sample) → drives (deviceClock d image sample .device .frame) ≡ false → deviceClock d image sample .answer ≡ 0
     none (yes r) h = rw r
     none (no r) h = rw r (driven _ .0 (rw r at h))
 
-    some : Answer (isReset sample) → drives (advancedOf d image sample .device .frame) ≡ true → 16 ≤ advancedOf d image sample .answer
+    some : Answer (isReset sample) → drives (deviceClock d image sample .device .frame) ≡ true → 16 ≤ deviceClock d image sample .answer
     some (yes r) h = clash (rw r at h)
     some (no r) h = rw r (driven _ .1 (rw r at h))
 
@@ -125,7 +125,7 @@ unfolding RegistersAnswer valueOf
 registers-answer d sample address byte a = rw a
 
 pub image-changes : ImageChanges
-unfolding ImageChanges imageAfter countedOf
+unfolding ImageChanges imageAfter controllerClock
 image-changes d image sample block e l h = (still (ask (isReset sample)), other (ask (isReset sample)) (ask (isStill (active (d .controller)))))
   where
     still : Answer (isReset sample) → isStill (active (d .controller)) ≡ true → imageAfter d image sample ≡ image
@@ -142,7 +142,7 @@ image-changes d image sample block e l h = (still (ask (isReset sample)), other 
         let f = active-fits (d .controller) (parts d e .controller) (moving (active (d .controller)) m) in
         let w = fits (active (d .controller)) f in
         let k : blockOf (active (d .controller) .address) < 16 = omega arith in
-        rw (r, m) (contents-other block (blockOf (active (d .controller) .address)) (tickedOf (active (d .controller)) .effect) image h k n l (ticked-in (active (d .controller)) f))
+        rw (r, m) (contents-other block (blockOf (active (d .controller) .address)) (operationClock (active (d .controller)) .effect) image h k n l (operation-clock-in (active (d .controller)) f))
 
 pub fresh-as-reset : FreshAsReset
 unfolding FreshAsReset resetDevice freshOf resetOf markedBy

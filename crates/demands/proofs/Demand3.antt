@@ -7,7 +7,7 @@ use mathlib.Core.List.{List, [], _∷_, _++_}
 use lib.Dec.{eqb, ltb}
 use lib.ListN.{length}
 use borrow.Author.Tests.{eqb-true, eqb-false, ne-eqb, not-false}
-use Rattle.laws.proofs.Rules.{Answer, yes, no, ask, clash}
+use Rattle.basics.proofs.Rules.{Answer, yes, no, ask, clash}
 use Rattle.units.specs.Units.{times, timesFit}
 use Rattle.record.specs.declared.Operation.{Operation}
 use Rattle.record.specs.declared.Controller.{Controller}
@@ -15,15 +15,15 @@ use Rattle.record.specs.declared.Device.{Device}
 use Rattle.record.specs.Record.{isAbsent, isProgram, isErase, absent}
 use Rattle.record.specs.Sample.{voltage}
 use Rattle.part.specs.Fresh.{freshOf}
-use Rattle.device.specs.Sound.{soundOf}
-use Rattle.device.specs.Power.{refusal, poweredUp, timesSet}
-use Rattle.device.proofs.Laws.{powered-sound, set-sound}
+use Rattle.soundness.specs.Sound.{soundOf}
+use Rattle.power.specs.Power.{powerRefused, poweredUp, timesSet}
+use Rattle.power.proofs.Laws.{powered-sound, set-sound}
 use Rattle.operation.specs.Marks.{marked}
 use Rattle.operation.specs.Whole.{rest}
-use Rattle.clock.specs.Clock.{advancedOf, imageAfter}
+use Rattle.clock.specs.Clock.{deviceClock, imageAfter}
 use Rattle.clock.specs.Fold.{World, world}
-use Rattle.clock.proofs.Kept.{advanced-sound, image-length}
-use Rattle.demands.specs.History.{Event, clock, retime, after, ending, powered, isOn, opOf, opOn, isThere, isLast, finishes, Fate, finished, cut, unfinished, fate, isFinished, Entry, sampleOf, accepted, operations, allowed, allAllowed, contents, erased, whole, done, Demand3, Demand3Allowed}
+use Rattle.clock.proofs.Kept.{device-clock-sound, image-length}
+use Rattle.demands.specs.History.{Event, clock, retime, after, ending, atPowerUp, isOn, opOf, opOn, isThere, isLast, finishes, Fate, finished, cut, unfinished, fate, isFinished, Acceptance, sampleOf, accepted, operations, allowed, allAllowed, contents, erased, whole, doneInOrder, Demand3, Demand3Allowed}
 use Rattle.demands.proofs.Counting.{Like, absent-rest}
 use Rattle.demands.proofs.Turns.{Turn, goes, ends, starts, cuts, turn, Good, refuses, steps}
 
@@ -40,7 +40,7 @@ good-after (clock sample) w g = pick (ask (eqb (voltage sample) 3))
         let x = ap (λ (u : World). u .device) (steps w sample g v) in
         let y = ap (λ (u : World). u .image) (steps w sample g v) in
         record {
-          sound = rw x (advanced-sound (w .device) (w .image) sample (g .sound));
+          sound = rw x (device-clock-sound (w .device) (w .image) sample (g .sound));
           size = rw y (image-length (w .device) (w .image) sample (g .sound) (g .size) ∙ g .size);
         }
 good-after (retime program slice pause) w g = record { sound = set-sound (w .device) program slice pause (g .sound); size = g .size }
@@ -107,10 +107,10 @@ module _ (b : ℕ) (e : Event) (es : List Event) (w : World) (x : List ℕ) wher
   page-goes : finishes b e w ≡ false
       → isAbsent (opOn b (after e w)) ≡ isAbsent (opOn b w)
       → Like (opOn b w) (opOn b (after e w))
-      → done (operations b (e ∷ es) w) (awaited b (e ∷ es) w x) ≡ done (operations b es (after e w)) (awaited b es (after e w) x)
+      → doneInOrder (operations b (e ∷ es) w) (awaited b (e ∷ es) w x) ≡ doneInOrder (operations b es (after e w)) (awaited b es (after e w) x)
   page-goes f a k = pick (ask (isAbsent (opOn b w)))
     where
-      pick : Answer (isAbsent (opOn b w)) → done (operations b (e ∷ es) w) (awaited b (e ∷ es) w x) ≡ done (operations b es (after e w)) (awaited b es (after e w) x)
+      pick : Answer (isAbsent (opOn b w)) → doneInOrder (operations b (e ∷ es) w) (awaited b (e ∷ es) w x) ≡ doneInOrder (operations b es (after e w)) (awaited b es (after e w) x)
       pick (yes p) = rw (none-new b e es w p (a ∙ p), awaits-none b (e ∷ es) w x p, awaits-none b es (after e w) x (a ∙ p))
       pick (no p) =
           rw (none-more b e es w p, awaits b (e ∷ es) w x p, awaits b es (after e w) x (a ∙ p), f, a ∙ p, like-whole (opOn b w) (opOn b (after e w)) x k)
@@ -118,19 +118,19 @@ module _ (b : ℕ) (e : Event) (es : List Event) (w : World) (x : List ℕ) wher
   page-ends : finishes b e w ≡ true
       → isAbsent (opOn b w) ≡ false
       → isAbsent (opOn b (after e w)) ≡ true
-      → done (operations b (e ∷ es) w) (awaited b (e ∷ es) w x) ≡ done (operations b es (after e w)) (awaited b es (after e w) (whole (opOn b w) x))
+      → doneInOrder (operations b (e ∷ es) w) (awaited b (e ∷ es) w x) ≡ doneInOrder (operations b es (after e w)) (awaited b es (after e w) (whole (opOn b w) x))
   page-ends f p q =
       rw (none-more b e es w p, awaits b (e ∷ es) w x p, f, awaits-none b es (after e w) (whole (opOn b w) x) q)
 
   page-cuts : finishes b e w ≡ false
       → isAbsent (opOn b w) ≡ false
       → isAbsent (opOn b (after e w)) ≡ true
-      → done (operations b (e ∷ es) w) (awaited b (e ∷ es) w x) ≡ done (operations b es (after e w)) (awaited b es (after e w) x)
+      → doneInOrder (operations b (e ∷ es) w) (awaited b (e ∷ es) w x) ≡ doneInOrder (operations b es (after e w)) (awaited b es (after e w) x)
   page-cuts f p q = rw (none-more b e es w p, awaits b (e ∷ es) w x p, f, q, awaits-none b es (after e w) x q)
 
   page-starts : isAbsent (opOn b w) ≡ true
       → isAbsent (opOn b (after e w)) ≡ false
-      → done (operations b (e ∷ es) w) (awaited b (e ∷ es) w x) ≡ done (operations b es (after e w)) (awaited b es (after e w) x)
+      → doneInOrder (operations b (e ∷ es) w) (awaited b (e ∷ es) w x) ≡ doneInOrder (operations b es (after e w)) (awaited b es (after e w) x)
   page-starts p q = rw (one-new b e es w p q, awaits-none b (e ∷ es) w x p, awaits b es (after e w) x q)
 
 -- what the block holds after an event
@@ -190,8 +190,8 @@ module _ (b : ℕ) (w n : World) (x : List ℕ) (h : Holds b w x) where
 paged : (b : ℕ) (e : Event) (es : List Event) (w : World) (x z : List ℕ)
     → Turn b (finishes b e w) (allowed b (sampleOf e) (w .device .locks)) (w .device .controller) (after e w .device .controller) (w .image) (after e w .image)
     → Holds b w x
-    → ((y : List ℕ) → Holds b (after e w) y → z ≡ done (operations b es (after e w)) (awaited b es (after e w) y))
-    → z ≡ done (operations b (e ∷ es) w) (awaited b (e ∷ es) w x)
+    → ((y : List ℕ) → Holds b (after e w) y → z ≡ doneInOrder (operations b es (after e w)) (awaited b es (after e w) y))
+    → z ≡ doneInOrder (operations b (e ∷ es) w) (awaited b (e ∷ es) w x)
 paged b e es w x z (goes f a k r m) h go = go x (holds-goes b w (after e w) x h a k r m) ∙ sym (page-goes b e es w x f a k)
 paged b e es w x z (ends f p q r m) h go =
     go (whole (opOn b w) x) (holds-ends b w (after e w) x h p q r m) ∙ sym (page-ends b e es w x f p q)
@@ -205,7 +205,7 @@ told : (b : ℕ) (es : List Event) (w : World) (x : List ℕ)
     → Holds b w x
     → marked (ending es w .device .controller .marks) b ≡ false
     → isThere b (ending es w) ≡ false
-    → contents b (ending es w .image) ≡ done (operations b es w) (awaited b es w x)
+    → contents b (ending es w .image) ≡ doneInOrder (operations b es w) (awaited b es w x)
 unfolding wholeOr
 told b [] w x l g h m t =
     let p = not-false (isAbsent (opOn b w)) t in
@@ -215,7 +215,7 @@ told b (e ∷ es) w x l g h m t =
 
 -- power-up: no operation, no mark
 fresh-none : (b straps program slice pause : ℕ) → opOf b (poweredUp straps program slice pause .device .controller) ≡ absent
-unfolding poweredUp refusal freshOf opOf isOn
+unfolding poweredUp powerRefused freshOf opOf isOn
 fresh-none b straps program slice pause = pick (ask (ltb 15 straps)) (ask (timesFit (times program slice pause)))
   where
     pick : Answer (ltb 15 straps) → Answer (timesFit (times program slice pause)) → opOf b (poweredUp straps program slice pause .device .controller) ≡ absent
@@ -226,11 +226,11 @@ fresh-none b straps program slice pause = pick (ask (ltb 15 straps)) (ask (times
 pub demand-3 : Demand3
 unfolding Demand3 wholeOr
 demand-3 straps program slice pause image history block l h m t =
-    let w = powered straps program slice pause image in
+    let w = atPowerUp straps program slice pause image in
     let o = fresh-none block straps program slice pause in
     told block history w (contents block image) h (record { sound = powered-sound straps program slice pause; size = l })
     (record { holds = λ u. rw o (ap (contents block) (absent-rest absent image refl)) }) m t
-    ∙ ap (done (operations block history w)) (awaits-none block history w (contents block image) (rw o))
+    ∙ ap (doneInOrder (operations block history w)) (awaits-none block history w (contents block image) (rw o))
 
 -- what an event adds to the ledger was allowed
 page-allowed : (b : ℕ) (e : Event) (es : List Event) (w : World)
@@ -253,4 +253,4 @@ all-allowed b (e ∷ es) w l g = page-allowed b e es w (turn b e w l g) (all-all
 pub demand-3-allowed : Demand3Allowed
 unfolding Demand3Allowed
 demand-3-allowed straps program slice pause image history block l h =
-    all-allowed block history (powered straps program slice pause image) h (record { sound = powered-sound straps program slice pause; size = l })
+    all-allowed block history (atPowerUp straps program slice pause image) h (record { sound = powered-sound straps program slice pause; size = l })

@@ -8,27 +8,26 @@ use lib.Bits.{bitAnd, bitOr, and-le-r}
 use lib.Dec.{eqb, ltb}
 use lib.ListN.{length}
 use borrow.Author.Tests.{eqb-true, eqb-false, ltb-false}
-use Rattle.laws.proofs.Rules.{Answer, yes, no, ask, clash}
-use Rattle.laws.proofs.Table.{at}
+use Rattle.basics.proofs.Rules.{Answer, yes, no, ask, clash}
+use Rattle.basics.proofs.Table.{at}
 use Rattle.units.specs.Units.{times, timesFit}
 use Rattle.record.specs.declared.Controller.{Controller}
 use Rattle.record.specs.declared.Device.{Device}
 use Rattle.record.specs.Record.{isAbsent}
-use Rattle.record.specs.Sample.{voltage}
+use Rattle.record.specs.Sample.{voltage, samples}
 use Rattle.part.specs.Fresh.{freshOf}
-use Rattle.device.specs.declared.Condition.{Condition}
-use Rattle.device.specs.declared.Condition.the-variants.{Ready, Running, Pausing, ProgramSuspended, EraseSuspended, ProgramInside}
-use Rattle.device.specs.Status.{conditionOf, conditionBits, statusOf}
-use Rattle.device.specs.Sound.{controllerFits}
-use Rattle.device.specs.Power.{poweredUp}
-use Rattle.device.proofs.Clauses.{clauses, parts}
+use Rattle.status.specs.declared.Condition.{Condition}
+use Rattle.status.specs.declared.Condition.the-variants.{Ready, Running, Pausing, ProgramSuspended, EraseSuspended, ProgramInside}
+use Rattle.status.specs.Status.{conditionOf, conditionBits, statusOf}
+use Rattle.soundness.specs.Sound.{controllerFits}
+use Rattle.power.specs.Power.{poweredUp}
+use Rattle.soundness.proofs.Clauses.{clauses, parts}
 use Rattle.command.proofs.Kept.{View, ready, view}
-use Rattle.device.proofs.Laws.{powered-sound, power-0}
+use Rattle.power.proofs.Laws.{powered-sound, power-0}
 use Rattle.operation.specs.Marks.{marked}
 use Rattle.clock.specs.Fold.{World, world, onward, through}
-use Rattle.glance.specs.Samples.{samples}
 use Rattle.stream.specs.Run.{overvolted, misshapen, runNumber, ranOf}
-use Rattle.demands.specs.History.{Event, clock, after, ending, powered, isThere, tellsNone, operations, contents, done, Demand3, Demand3Run}
+use Rattle.demands.specs.History.{Event, clock, after, ending, atPowerUp, isThere, tellsNone, operations, contents, doneInOrder, Demand3, Demand3Run}
 use Rattle.demands.proofs.Counting.{off-absent}
 use Rattle.demands.proofs.Turns.{Good, steps, op-none}
 use Rattle.demands.proofs.Demand3.{good-after, demand-3}
@@ -38,8 +37,8 @@ goes-on : (w : World) (s : ℕ) → Good w → eqb (voltage s) 3 ≡ false → a
 unfolding onward
 goes-on w s g v = steps w s g v
 
-calm : (s : ℕ) (ss : List ℕ) → overvolted (s ∷ ss) ≡ false → (eqb (voltage s) 3 ≡ false) × (overvolted ss ≡ false)
-calm s ss e = pick (ask (eqb (voltage s) 3))
+operation_free : (s : ℕ) (ss : List ℕ) → overvolted (s ∷ ss) ≡ false → (eqb (voltage s) 3 ≡ false) × (overvolted ss ≡ false)
+operation_free s ss e = pick (ask (eqb (voltage s) 3))
   where
     pick : Answer (eqb (voltage s) 3) → (eqb (voltage s) 3 ≡ false) × (overvolted ss ≡ false)
     pick (yes v) = clash (sym (rw v at e))
@@ -48,7 +47,7 @@ calm s ss e = pick (ask (eqb (voltage s) 3))
 as-history : (ss : List ℕ) (w : World) → Good w → overvolted ss ≡ false → ending (map clock ss) w ≡ through ss w
 as-history [] w g e = refl
 as-history (s ∷ ss) w g e =
-    let c = calm s ss e in
+    let c = operation_free s ss e in
     as-history ss (after (clock s) w) (good-after (clock s) w g) (c .1) ∙ ap (through ss) (goes-on w s g (c .0))
 
 -- what a run that is done has found
@@ -94,25 +93,25 @@ module _ (image stream answers : List ℕ) (straps program slice pause : ℕ) (n
   d : Done image stream straps program slice pause
   d = found image stream answers straps program slice pause z
 
-  start : powered straps program slice pause image ≡ world (freshOf straps (times program slice pause)) image
+  start : atPowerUp straps program slice pause image ≡ world (freshOf straps (times program slice pause)) image
   start = ap (λ (p : _). world (p .device) image) (power-0 straps program slice pause (d .straps-fit) (d .times-fit))
 
-  end : ending (map clock (samples stream)) (powered straps program slice pause image) ≡ through (samples stream) (world (freshOf straps (times program slice pause)) image)
+  end : ending (map clock (samples stream)) (atPowerUp straps program slice pause image) ≡ through (samples stream) (world (freshOf straps (times program slice pause)) image)
   end =
-      as-history (samples stream) (powered straps program slice pause image) (record { sound = powered-sound straps program slice pause; size = d .size }) (d .volts)
+      as-history (samples stream) (atPowerUp straps program slice pause image) (record { sound = powered-sound straps program slice pause; size = d .size }) (d .volts)
       ∙ ap (through (samples stream)) start
 
-  run-image : ranOf image stream answers straps program slice pause .image ≡ ending (map clock (samples stream)) (powered straps program slice pause image) .image
+  run-image : ranOf image stream answers straps program slice pause .image ≡ ending (map clock (samples stream)) (atPowerUp straps program slice pause image) .image
   unfolding ranOf
   run-image = rw z (ap (λ (w : World). w .image) (sym end))
 
   run-marks : ranOf image stream answers straps program slice pause .report .marks
-      ≡ ending (map clock (samples stream)) (powered straps program slice pause image) .device .controller .marks
+      ≡ ending (map clock (samples stream)) (atPowerUp straps program slice pause image) .device .controller .marks
   unfolding ranOf
   run-marks = rw z (ap (λ (w : World). w .device .controller .marks) (sym end))
 
   run-status : ranOf image stream answers straps program slice pause .report .status
-      ≡ statusOf (ending (map clock (samples stream)) (powered straps program slice pause image) .device .controller)
+      ≡ statusOf (ending (map clock (samples stream)) (atPowerUp straps program slice pause image) .device .controller)
   unfolding ranOf
   run-status = rw z (ap (λ (w : World). statusOf (w .device .controller)) (sym end))
 
@@ -169,7 +168,7 @@ pub demand-3-run : Demand3Run
 unfolding Demand3Run Demand3
 demand-3-run image stream answers straps program slice pause block h n m t =
     let f = d image stream answers straps program slice pause n in
-    let w = powered straps program slice pause image in
+    let w = atPowerUp straps program slice pause image in
     let g = good-ending (map clock (samples stream)) w (record { sound = powered-sound straps program slice pause; size = f .size }) in
     let u = none-told block (ending (map clock (samples stream)) w) g (ap tellsNone (sym (run-status image stream answers straps program slice pause n)) ∙ t) in
     ap (contents block) (run-image image stream answers straps program slice pause n)

@@ -11,8 +11,8 @@ use lib.Dec.{eqb, ltb}
 use lib.ListN.{length, getD, set, take, drop, replicate}
 use lib.Seq.{drop-length}
 use borrow.Author.Tests.{ltb-true, eqb-true, eqb-false, eq-eqb, ne-eqb, not-true}
-use Rattle.laws.proofs.Rules.{Answer, yes, no, ask, clash}
-use Rattle.laws.proofs.All.{also, none}
+use Rattle.basics.proofs.Rules.{Answer, yes, no, ask, clash}
+use Rattle.basics.proofs.All.{also, none}
 use Rattle.units.specs.declared.Times.{Times}
 use Rattle.units.specs.Units.{timesFit, inClocks}
 use Rattle.record.specs.declared.Operation.{Operation}
@@ -20,18 +20,18 @@ use Rattle.record.specs.declared.Controller.{Controller}
 use Rattle.record.specs.declared.Device.{Device}
 use Rattle.record.specs.Record.{isAbsent, isProgram, isErase, withPause, absent, blockOf}
 use Rattle.record.specs.Sample.{tbl, wp, voltage}
-use Rattle.effect.specs.Effect.{filled}
-use Rattle.device.specs.declared.Condition.{Condition}
-use Rattle.device.specs.declared.Condition.the-variants.{Ready, Running, Pausing, ProgramSuspended, EraseSuspended, ProgramInside}
-use Rattle.device.specs.Status.{conditionOf}
-use Rattle.device.specs.Sound.{operationFits, setupKinds, controllerFits}
-use Rattle.device.proofs.Clauses.{Clauses, clauses}
+use Rattle.basics.specs.Bytes.{filled}
+use Rattle.status.specs.declared.Condition.{Condition}
+use Rattle.status.specs.declared.Condition.the-variants.{Ready, Running, Pausing, ProgramSuspended, EraseSuspended, ProgramInside}
+use Rattle.status.specs.Status.{conditionOf}
+use Rattle.soundness.specs.Sound.{operationFits, setupKinds, controllerFits}
+use Rattle.soundness.proofs.Clauses.{Clauses, clauses}
 use Rattle.command.specs.declared.Action.{Action}
 use Rattle.command.specs.declared.Action.the-variants.{Array, Status, Signature, Clear, Program, Erase, Pause, Resume, Nothing}
-use Rattle.command.specs.declared.Judgement.{Judgement}
-use Rattle.command.specs.declared.Judgement.the-variants.{Granted, Voltage, Pin, Lock, Suspended}
+use Rattle.permission.specs.declared.Judgement.{Judgement}
+use Rattle.permission.specs.declared.Judgement.the-variants.{Granted, Voltage, Pin, Lock, Suspended}
 use Rattle.command.specs.Commands.{acted, actionOf}
-use Rattle.command.specs.Permission.{pinLow, intoSuspended, judged}
+use Rattle.permission.specs.Permission.{pinLow, intoSuspended, judged}
 use Rattle.command.specs.Setup.{acceptedOf, starting, failing, answered, unconfirmed, writtenOf}
 use Rattle.command.proofs.Kept.{View, ready, running, pausing, program-suspended, erase-suspended, within, view, refuse, accepted-fits}
 use Rattle.demands.specs.History.{isOn, opOf, allowed, erased, whole}

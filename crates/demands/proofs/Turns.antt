@@ -8,37 +8,37 @@ use native.Mathlib.Omega.{arith}
 use lib.Dec.{eqb, ltb}
 use lib.ListN.{length}
 use borrow.Author.Tests.{eqb-true, eqb-false}
-use Rattle.laws.proofs.Rules.{Answer, yes, no, ask, clash}
+use Rattle.basics.proofs.Rules.{Answer, yes, no, ask, clash}
 use Rattle.units.specs.Units.{times, timesFit}
 use Rattle.record.specs.declared.Frame.{Frame}
 use Rattle.record.specs.declared.Operation.{Operation}
 use Rattle.record.specs.declared.Controller.{Controller}
 use Rattle.record.specs.declared.Device.{Device}
 use Rattle.record.specs.Record.{isAbsent, isErase, absent, blockOf}
-use Rattle.record.specs.Sample.{rp, init, voltage}
+use Rattle.record.specs.Sample.{rp, init, voltage, isReset}
 use Rattle.effect.specs.Effect.{applied}
 use Rattle.part.specs.Fresh.{resting}
-use Rattle.device.specs.Sound.{frameFits, controllerFits, soundOf}
-use Rattle.device.specs.Power.{timesSet}
-use Rattle.device.proofs.Clauses.{Parts, parts, joined}
+use Rattle.soundness.specs.Sound.{frameFits, controllerFits, soundOf}
+use Rattle.power.specs.Power.{timesSet}
+use Rattle.soundness.proofs.Clauses.{Parts, parts, joined}
 use Rattle.operation.specs.Marks.{marked, marking}
-use Rattle.operation.specs.Clock.{active, isStill, sliceAt, replaced, countedOf}
+use Rattle.operation.specs.Clock.{active, isStill, sliceAt, replaced, controllerClock}
 use Rattle.operation.specs.Reset.{markedBy, resetOf}
 use Rattle.operation.specs.Whole.{rest}
 use Rattle.operation.proofs.Facts.{fits, outer-fits, inner-fits}
-use Rattle.operation.proofs.Kept.{unset, counted-kept}
+use Rattle.operation.proofs.Kept.{unset, controller-clock-kept}
 use Rattle.operation.proofs.Marked.{marking-same, marking-other}
 use Rattle.bus.specs.declared.Asked.{Asked}
 use Rattle.bus.specs.declared.Asked.the-variants.{Nothing as Silent, Read, Write}
-use Rattle.bus.specs.Frames.{framedOf, askedOf}
+use Rattle.bus.specs.Frames.{frameClock, askedOf}
 use Rattle.command.proofs.Kept.{refuse}
 use Rattle.access.specs.Read.{isArray, arrayAddress, lockOf}
 use Rattle.access.specs.Write.{reachedOf}
-use Rattle.clock.specs.Clock.{isReset, resetDevice, withFrame, answeredTo, servedOf, afterController, advancedOf, imageAfter}
-use Rattle.clock.specs.Step.{stepNumber, steppedOf, storedOf}
+use Rattle.clock.specs.Clock.{resetDevice, withFrame, answeredTo, servedOf, afterController, deviceClock, imageAfter}
+use Rattle.step.specs.Step.{stepNumber, steppedOf, storedOf}
 use Rattle.clock.specs.Fold.{World, world}
-use Rattle.clock.proofs.Doors.{overvolted, accepted}
-use Rattle.clock.proofs.Kept.{controller-sound, advanced-sound, image-length, applied-length}
+use Rattle.step.proofs.Doors.{overvolted, accepted}
+use Rattle.clock.proofs.Kept.{controller-sound, device-clock-sound, image-length, applied-length}
 use Rattle.bus.proofs.Kept.{frame-kept}
 use Rattle.demands.specs.History.{Event, clock, retime, after, isOn, opOf, isLast, finishes, sampleOf, allowed, contents, whole}
 use Rattle.demands.proofs.Block.{contents-length, contents-rest, restIn}
@@ -83,11 +83,11 @@ onward-like : (o n m : Operation) → Like o n → Like n m → Like o m
 onward-like o n m k l =
     record { kind = l .kind ∙ k .kind; address = l .address ∙ k .address; byte = l .byte ∙ k .byte }
 
-counted-setup : (c : Controller) → countedOf c .controller .setup ≡ c .setup
-unfolding countedOf replaced
-counted-setup c = pick (ask (isStill (active c))) (ask (isAbsent (c .inner)))
+controller-clock-setup : (c : Controller) → controllerClock c .controller .setup ≡ c .setup
+unfolding controllerClock replaced
+controller-clock-setup c = pick (ask (isStill (active c))) (ask (isAbsent (c .inner)))
   where
-    pick : Answer (isStill (active c)) → Answer (isAbsent (c .inner)) → countedOf c .controller .setup ≡ c .setup
+    pick : Answer (isStill (active c)) → Answer (isAbsent (c .inner)) → controllerClock c .controller .setup ≡ c .setup
     pick (yes m) i = rw m
     pick (no m) (yes i) = rw (m, i)
     pick (no m) (no i) = rw (m, i)
@@ -97,20 +97,20 @@ combined : (b sample : ℕ) (locks : List ℕ) (c n : Controller) (d : List ℕ)
     → b < 16
     → controllerFits c ≡ true
     → length d ≡ 1048576
-    → length (applied (countedOf c .effect) d) ≡ 1048576
+    → length (applied (controllerClock c .effect) d) ≡ 1048576
     → Counting b c d
-    → Moving b sample locks (countedOf c .controller) n
-    → Turn b (isLast (opOf b c)) (allowed b sample locks) c n d (applied (countedOf c .effect) d)
+    → Moving b sample locks (controllerClock c .controller) n
+    → Turn b (isLast (opOf b c)) (allowed b sample locks) c n d (applied (controllerClock c .effect) d)
 combined b sample locks c n d h e l z (counts-on t a k r m) (stays x y q) =
     goes t (x ∙ a) (onward-like _ _ _ k (y .like))
-    (ap (contents b) (alike-rest _ _ (applied (countedOf c .effect) d) y) ∙ r)
+    (ap (contents b) (alike-rest _ _ (applied (controllerClock c .effect) d) y) ∙ r)
     (ap (λ (u : ℕ). marked u b) q ∙ m)
 combined b sample locks c n d h e l z (counts-on t a k r m) (begins s x y f q g) =
     let u = sym a ∙ x in
     let v =
-    ap (contents b) (sym (absent-rest _ (applied (countedOf c .effect) d) x)) ∙ r ∙ ap (contents b) (absent-rest _ d u) in
+    ap (contents b) (sym (absent-rest _ (applied (controllerClock c .effect) d) x)) ∙ r ∙ ap (contents b) (absent-rest _ d u) in
     starts u y
-    (contents-rest b (opOf b n) (applied (countedOf c .effect) d) h (f .sound) (f .block) z
+    (contents-rest b (opOf b n) (applied (controllerClock c .effect) d) h (f .sound) (f .block) z
     ∙ ap (restIn (opOf b n)) v
     ∙ f .all-left (contents b d) (contents-length b d l h))
     (ap (λ (w : ℕ). marked w b) q ∙ m)
@@ -118,7 +118,7 @@ combined b sample locks c n d h e l z (counts-on t a k r m) (begins s x y f q g)
 combined b sample locks c n d h e l z (counts-out w t a k r m) (stays x y q) =
     ends t a (x ∙ k) r (λ v. ap (λ (u : ℕ). marked u b) q ∙ m v)
 combined b sample locks c n d h e l z (counts-out w t a k r m) (begins s x y f q g) =
-    clash (refuse (c .setup) (ap (λ (u : ℕ). eqb u 0) (sym (counted-setup c)) ∙ s) (unset c e w))
+    clash (refuse (c .setup) (ap (λ (u : ℕ). eqb u 0) (sym (controller-clock-setup c)) ∙ s) (unset c e w))
 
 -- the bus, whatever the frame has come to ask
 asking : (a : Asked) (b sample : ℕ) (d : Device) (image : List ℕ)
@@ -146,8 +146,8 @@ serving : (b sample : ℕ) (d : Device) (image : List ℕ)
     → Moving b sample (d .locks) (d .controller) (servedOf d image sample .device .controller)
 unfolding servedOf
 serving b sample d image e =
-    asking (askedOf (framedOf (d .straps) (d .frame) sample)) b sample (withFrame d (framedOf (d .straps) (d .frame) sample)) image
-    (framed d (framedOf (d .straps) (d .frame) sample) e (frame-kept (d .straps) (d .frame) sample (parts d e .frame)))
+    asking (askedOf (frameClock (d .straps) (d .frame) sample)) b sample (withFrame d (frameClock (d .straps) (d .frame) sample)) image
+    (framed d (frameClock (d .straps) (d .frame) sample) e (frame-kept (d .straps) (d .frame) sample (parts d e .frame)))
 
 -- a block whose operation is absent has none at all
 none-there : (b : ℕ) (c : Controller) → isAbsent (opOf b c) ≡ true → (isOn b (c .outer) ≡ false) × (isOn b (c .inner) ≡ false)
@@ -242,7 +242,7 @@ refuses w sample g v = rw (overvolted (w .device) (w .image) sample (g .sound) (
 pub steps : (w : World) (sample : ℕ)
     → Good w
     → eqb (voltage sample) 3 ≡ false
-    → after (clock sample) w ≡ world (advancedOf (w .device) (w .image) sample .device) (imageAfter (w .device) (w .image) sample)
+    → after (clock sample) w ≡ world (deviceClock (w .device) (w .image) sample .device) (imageAfter (w .device) (w .image) sample)
 unfolding steppedOf storedOf
 steps w sample g v = rw (accepted (w .device) (w .image) sample (g .sound) (g .size) (eqb-false (voltage sample) 3 v))
 
@@ -260,7 +260,7 @@ pub turn : (b : ℕ) (e : Event) (w : World)
     → b < 16
     → Good w
     → Turn b (finishes b e w) (allowed b (sampleOf e) (w .device .locks)) (w .device .controller) (after e w .device .controller) (w .image) (after e w .image)
-unfolding finishes advancedOf imageAfter resetDevice isReset
+unfolding finishes deviceClock imageAfter resetDevice isReset
 turn b (retime program slice pause) w h g =
     rw (retimed (w .device) program slice pause) (idles b _ (w .device .controller) (w .image))
 turn b (clock sample) w h g = pick (ask (eqb (voltage sample) 3)) (ask (eqb (rp sample) 0)) (ask (eqb (init sample) 0))
@@ -268,7 +268,7 @@ turn b (clock sample) w h g = pick (ask (eqb (voltage sample) 3)) (ask (eqb (rp 
     p : Parts (w .device)
     p = parts (w .device) (g .sound)
 
-    long : isReset sample ≡ false → length (applied (countedOf (w .device .controller) .effect) (w .image)) ≡ 1048576
+    long : isReset sample ≡ false → length (applied (controllerClock (w .device .controller) .effect) (w .image)) ≡ 1048576
     long r = (rw r at (image-length (w .device) (w .image) sample (g .sound) (g .size))) ∙ g .size
 
     pick : Answer (eqb (voltage sample) 3)
@@ -293,4 +293,4 @@ turn b (clock sample) w h g = pick (ask (eqb (voltage sample) 3)) (ask (eqb (rp 
         rw (x, y, v, r, i)
         (combined b sample (w .device .locks) (w .device .controller) _ (w .image) h (p .controller) (g .size) (long (rw (r, i)))
         (counting b (w .device .controller) (w .image) h (p .controller) (g .size))
-        (serving b sample (afterController (w .device)) (applied (countedOf (w .device .controller) .effect) (w .image)) (controller-sound (w .device) (g .sound))))
+        (serving b sample (afterController (w .device)) (applied (controllerClock (w .device .controller) .effect) (w .image)) (controller-sound (w .device) (g .sound))))

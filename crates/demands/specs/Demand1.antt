@@ -9,17 +9,16 @@ use lib.Dec.{eqb, ltb}
 use lib.ListN.{length}
 use Rattle.units.specs.Units.{times, timesFit}
 use Rattle.record.specs.declared.Device.{Device}
-use Rattle.record.specs.Sample.{voltage}
-use Rattle.device.specs.Sound.{soundOf}
-use Rattle.device.specs.Power.{refusal, poweredUp, timesSet}
-use Rattle.device.specs.Told.{statusTold, marksTold}
-use Rattle.clock.specs.Step.{steppedOf, storedOf}
+use Rattle.record.specs.Sample.{voltage, isIdleSample, samples}
+use Rattle.soundness.specs.Sound.{soundOf}
+use Rattle.power.specs.Power.{powerRefused, poweredUp, timesSet}
+use Rattle.power.specs.Told.{statusTold, marksTold}
+use Rattle.step.specs.Step.{steppedOf, storedOf}
 use Rattle.clock.specs.Fold.{world, repeated}
-use Rattle.settle.specs.Settle.{settling, isRestless, settledOf, imageSettled}
-use Rattle.glance.specs.Samples.{samples}
+use Rattle.settle.specs.Settle.{settling, settledOf, imageSettled}
 use Rattle.stream.specs.Run.{overvolted, misshapen, ranOf}
 use Rattle.inplace.specs.Clocked.{clockedOf}
-use Rattle.view.specs.Shown.{shown, partShown}
+use Rattle.view.specs.Shown.{shown, pieceShown}
 use Rattle.sheet.specs.Sheet.{ofLayout, strapsIn, timesIn, readOf, numbersOf, writeOf}
 
 -- the calls, with what is handed in
@@ -65,7 +64,7 @@ refusals (settle d image sample limit) =
     unsound d
     ∷ misfit image
     ∷ when 7 (eqb (voltage sample) 3)
-    ∷ when 9 (isRestless sample)
+    ∷ when 9 (not (isIdleSample sample))
     ∷ when 10 (not (settling sample limit 0 (world d image) .ready))
     ∷ []
 refusals (run image stream answers straps program slice pause) =
@@ -102,7 +101,7 @@ gives number others d buffers = record { number = number; others = others; devic
 
 -- the device with straps 0 and times 10, 3,906, 30; it also stands where a call has no device
 abbrev spare : Device
-spare = refusal 0 .device
+spare = powerRefused 0 .device
 
 -- what each call gives, by the definitions that the contracts cite
 abbrev pub outcome : Call → Outcome
@@ -127,7 +126,7 @@ outcome (stepInPlace d image sample) =
     let r = clockedOf (steppedOf d image sample) in
     gives (r .number) (r .answer ∷ []) (steppedOf d image sample .device) (storedOf d image sample ∷ [])
 outcome (viewBlock d image page block) =
-    let r = partShown d image page block in
+    let r = pieceShown d image page block in
     gives 0 (r .from ∷ r .start ∷ r .length ∷ []) spare (shown d image page block ∷ [])
 outcome (tellStatus d) = gives 0 (statusTold d ∷ []) spare []
 outcome (tellMarks d) = gives 0 (marksTold d ∷ []) spare []

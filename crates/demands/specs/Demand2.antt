@@ -1,4 +1,4 @@
--- Demand 2: what a clock does is the definition `advancedOf`; here stand the properties that a reader checks it by.
+-- Demand 2: what a clock does is the definition `deviceClock`; here stand the properties that a reader checks it by.
 -- Assumes nothing.
 use Prim.Native.Nat.{ℕ, _+_, _*_, _/_, _%_, _≤_, _<_}
 use mathlib.Core.Path.{_≡_}
@@ -13,11 +13,11 @@ use Rattle.record.specs.declared.Device.{Device}
 use Rattle.record.specs.Record.{idle, isRead, isWrite, blockOf}
 use Rattle.record.specs.Sample.{lines, frameLine}
 use Rattle.part.specs.Fresh.{freshOf}
-use Rattle.device.specs.Sound.{soundOf}
-use Rattle.device.specs.Status.{statusOf}
+use Rattle.soundness.specs.Sound.{soundOf}
+use Rattle.status.specs.Status.{statusOf}
 use Rattle.operation.specs.Clock.{active, isStill}
 use Rattle.access.specs.Read.{isArray, registerValue, valueOf}
-use Rattle.clock.specs.Clock.{withFrame, resetDevice, advancedOf, imageAfter}
+use Rattle.clock.specs.Clock.{withFrame, resetDevice, deviceClock, imageAfter}
 use Rattle.clock.specs.Fold.{World, world, through}
 use Rattle.demands.specs.History.{contents}
 
@@ -59,8 +59,8 @@ drives f =
 unfoldable pub AnswerByte : Type 0
 AnswerByte =
     (d : Device) (image : List ℕ) (sample : ℕ)
-    → (drives (advancedOf d image sample .device .frame) ≡ false → advancedOf d image sample .answer ≡ 0)
-    × (drives (advancedOf d image sample .device .frame) ≡ true → 16 ≤ advancedOf d image sample .answer)
+    → (drives (deviceClock d image sample .device .frame) ≡ false → deviceClock d image sample .answer ≡ 0)
+    × (drives (deviceClock d image sample .device .frame) ≡ true → 16 ≤ deviceClock d image sample .answer)
 
 -- status bit 0 is never set
 unfoldable pub StatusBit0 : Type 0

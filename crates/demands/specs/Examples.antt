@@ -6,12 +6,12 @@ use mathlib.Core.List.{List, [], _∷_, _++_, map}
 use lib.ListN.{length, getD, take, drop, replicate}
 use Rattle.units.specs.Units.{times}
 use Rattle.part.specs.Fresh.{freshOf}
-use Rattle.device.specs.Status.{statusOf}
+use Rattle.status.specs.Status.{statusOf}
 use Rattle.clock.specs.Fold.{World, world, through, answersTo}
 
 -- a sample with the frame line low: RP, INIT, TBL and WP high and voltage class 1; with class 0; with TBL low; in reset
-abbrev quiet : ℕ
-quiet = 992
+abbrev normal : ℕ
+normal = 992
 
 abbrev unpowered : ℕ
 unpowered = 480
@@ -46,7 +46,7 @@ head pins address =
 
 -- a read of 19 clocks, and a write of 17
 abbrev reads : ℕ → List ℕ
-reads address = (quiet + 13) ∷ (head quiet address ++ idles quiet 9)
+reads address = (normal + 13) ∷ (head normal address ++ idles normal 9)
 
 abbrev writes : ℕ → ℕ → ℕ → List ℕ
 writes pins address byte =
@@ -54,7 +54,7 @@ writes pins address byte =
 
 -- a write as far as its clock n
 abbrev writesTo : ℕ → ℕ → ℕ → List ℕ
-writesTo n address byte = take n (writes quiet address byte)
+writesTo n address byte = take n (writes normal address byte)
 
 abbrev target : ℕ
 target = 0xFFF0005
@@ -94,32 +94,32 @@ abbrev row : List ℕ → Question → List ℕ → Row
 row ss q seen = record { samples = ss; question = q; seen = seen }
 
 -- a program of 0Fh with lock 15 open, up to its acceptance
-abbrev accepted : List ℕ
-accepted = writes quiet lock15 0 ++ (writes quiet target 0x40 ++ writesTo 12 target 0x0F)
+abbrev upToAcceptance : List ℕ
+upToAcceptance = writes normal lock15 0 ++ (writes normal target 0x40 ++ writesTo 12 target 0x0F)
 
 -- an erase of block 15, suspended
 abbrev suspended : List ℕ
 suspended =
-    writes quiet lock15 0
-    ++ (writes quiet target 0x20 ++ (writes quiet target 0xD0 ++ (writes quiet target 0xB0 ++ idles quiet 40)))
+    writes normal lock15 0
+    ++ (writes normal target 0x20 ++ (writes normal target 0xD0 ++ (writes normal target 0xB0 ++ idles normal 40)))
 
 abbrev pub table : List Row
 table =
     row (reads maker) (answers 19) (replicate 12 0 ++ (0x15 ∷ 0x15 ∷ 0x10 ∷ 0x10 ∷ 0x12 ∷ 0x1F ∷ 0 ∷ []))
-    ∷ row (writes quiet target 0x40 ++ writes quiet target 0x0F) status (0x82 ∷ [])
-    ∷ row (writes quiet target 0x40 ++ (writes quiet target 0x0F ++ idles quiet 40)) byte (0x5A ∷ [])
+    ∷ row (writes normal target 0x40 ++ writes normal target 0x0F) status (0x82 ∷ [])
+    ∷ row (writes normal target 0x40 ++ (writes normal target 0x0F ++ idles normal 40)) byte (0x5A ∷ [])
     ∷ row (writes unpowered target 0x40 ++ writes unpowered target 0x0F) status (0x88 ∷ [])
-    ∷ row (accepted ++ idles quiet 32) byte (0x5A ∷ [])
-    ∷ row (accepted ++ idles quiet 33) byte (0x0A ∷ [])
-    ∷ row (accepted ++ idles topLow 33) byte (0x0A ∷ [])
-    ∷ row (writes quiet target 0x20 ++ writes quiet target 0) status (0xB0 ∷ [])
-    ∷ row (writes quiet lock15 3 ++ (writes quiet lock15 0 ++ reads lock15)) (answers 4) (0x13 ∷ 0x10 ∷ 0x1F ∷ 0 ∷ [])
-    ∷ row (writes quiet lock14 0xFF ++ reads lock14) (answers 4) (0x17 ∷ 0x10 ∷ 0x1F ∷ 0 ∷ [])
-    ∷ row (writesTo 11 target 0x90 ++ ((quiet + 9) ∷ idles quiet 5)) controls (0 ∷ 0 ∷ [])
+    ∷ row (upToAcceptance ++ idles normal 32) byte (0x5A ∷ [])
+    ∷ row (upToAcceptance ++ idles normal 33) byte (0x0A ∷ [])
+    ∷ row (upToAcceptance ++ idles topLow 33) byte (0x0A ∷ [])
+    ∷ row (writes normal target 0x20 ++ writes normal target 0) status (0xB0 ∷ [])
+    ∷ row (writes normal lock15 3 ++ (writes normal lock15 0 ++ reads lock15)) (answers 4) (0x13 ∷ 0x10 ∷ 0x1F ∷ 0 ∷ [])
+    ∷ row (writes normal lock14 0xFF ++ reads lock14) (answers 4) (0x17 ∷ 0x10 ∷ 0x1F ∷ 0 ∷ [])
+    ∷ row (writesTo 11 target 0x90 ++ ((normal + 9) ∷ idles normal 5)) controls (0 ∷ 0 ∷ [])
     ∷ row suspended status (0xC0 ∷ [])
-    ∷ row (suspended ++ (writes quiet target 0x40 ++ writes quiet target 0)) status (0xD0 ∷ [])
-    ∷ row (accepted ++ ((inReset + 31) ∷ [])) marks (0x8000 ∷ [])
-    ∷ row (accepted ++ ((inReset + 31) ∷ [])) status (0x80 ∷ [])
+    ∷ row (suspended ++ (writes normal target 0x40 ++ writes normal target 0)) status (0xD0 ∷ [])
+    ∷ row (upToAcceptance ++ ((inReset + 31) ∷ [])) marks (0x8000 ∷ [])
+    ∷ row (upToAcceptance ++ ((inReset + 31) ∷ [])) status (0x80 ∷ [])
     ∷ []
 
 abbrev start : List ℕ → World

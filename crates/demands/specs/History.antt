@@ -7,16 +7,15 @@ use mathlib.Core.List.{List, [], _∷_, _++_, map}
 use lib.Bits.{bitAnd}
 use lib.Dec.{eqb, ltb}
 use lib.ListN.{length, getD, set, take, drop, replicate}
-use Rattle.laws.specs.All.{all}
+use Rattle.basics.specs.All.{all}
 use Rattle.record.specs.declared.Operation.{Operation}
 use Rattle.record.specs.declared.Controller.{Controller}
 use Rattle.record.specs.Record.{isAbsent, isProgram, isSuspended, absent, blockOf}
-use Rattle.record.specs.Sample.{rp, init, tbl, wp, voltage}
-use Rattle.device.specs.Power.{poweredUp, timesSet}
+use Rattle.record.specs.Sample.{rp, init, tbl, wp, voltage, samples}
+use Rattle.power.specs.Power.{poweredUp, timesSet}
 use Rattle.operation.specs.Marks.{marked}
-use Rattle.clock.specs.Step.{steppedOf, storedOf}
+use Rattle.step.specs.Step.{steppedOf, storedOf}
 use Rattle.clock.specs.Fold.{World, world}
-use Rattle.glance.specs.Samples.{samples}
 use Rattle.stream.specs.Run.{ranOf}
 
 -- a history is any list of clocks and changes of times
@@ -35,8 +34,8 @@ ending [] w = w
 ending (e ∷ es) w = ending es (after e w)
 
 -- power-up, on the image as it is then
-abbrev pub powered : ℕ → ℕ → ℕ → ℕ → List ℕ → World
-powered straps program slice pause image = world (poweredUp straps program slice pause .device) image
+abbrev pub atPowerUp : ℕ → ℕ → ℕ → ℕ → List ℕ → World
+atPowerUp straps program slice pause image = world (poweredUp straps program slice pause .device) image
 
 -- the operation of a block, as the device shows it: the one that stands there, running, pausing or suspended
 unfoldable pub isOn : ℕ → Operation → Bool
@@ -82,7 +81,7 @@ isFinished cut = false
 isFinished unfinished = false
 
 -- an operation as it was accepted, the sample and the lock registers of that clock, and what became of it
-pub record Entry : Type 0 where
+pub record Acceptance : Type 0 where
   pub operation : Operation
   pub sample : ℕ
   pub locks : List ℕ
@@ -93,7 +92,7 @@ sampleOf (clock sample) = sample
 sampleOf (retime program slice pause) = 0
 
 -- accepted by an event: there after it, not there before
-abbrev pub accepted : ℕ → Event → List Event → World → List Entry
+abbrev pub accepted : ℕ → Event → List Event → World → List Acceptance
 accepted block e es w =
     cond (isThere block w) []
     (cond (isThere block (after e w))
@@ -106,7 +105,7 @@ accepted block e es w =
     [])
 
 -- the operations of a block, in order of acceptance
-abbrev pub operations : ℕ → List Event → World → List Entry
+abbrev pub operations : ℕ → List Event → World → List Acceptance
 operations block [] w = []
 operations block (e ∷ es) w = accepted block e es w ++ operations block es (after e w)
 
@@ -120,7 +119,7 @@ allowed block sample locks =
     ∷ eqb (getD locks block 0 % 2) 0
     ∷ [])
 
-abbrev pub allAllowed : ℕ → List Entry → Bool
+abbrev pub allAllowed : ℕ → List Acceptance → Bool
 allAllowed block [] = true
 allAllowed block (e ∷ es) = cond (allowed block (e .sample) (e .locks)) (allAllowed block es) false
 
@@ -138,9 +137,9 @@ whole o x =
     cond (isProgram o) (set x (o .address % 65536) (bitAnd (getD x (o .address % 65536) 0) (o .«data»))) erased
 
 -- the finished ones, one after another
-abbrev pub done : List Entry → List ℕ → List ℕ
-done [] x = x
-done (e ∷ es) x = done es (cond (isFinished (e .fate)) (whole (e .operation) x) x)
+abbrev pub doneInOrder : List Acceptance → List ℕ → List ℕ
+doneInOrder [] x = x
+doneInOrder (e ∷ es) x = doneInOrder es (cond (isFinished (e .fate)) (whole (e .operation) x) x)
 
 -- demand 3: a block with no mark and no unfinished operation holds what its first contents become
 unfoldable pub Demand3 : Type 0
@@ -148,10 +147,10 @@ Demand3 =
     (straps program slice pause : ℕ) (image : List ℕ) (history : List Event) (block : ℕ)
     → length image ≡ 1048576
     → block < 16
-    → marked (ending history (powered straps program slice pause image) .device .controller .marks) block ≡ false
-    → isThere block (ending history (powered straps program slice pause image)) ≡ false
-    → contents block (ending history (powered straps program slice pause image) .image)
-    ≡ done (operations block history (powered straps program slice pause image)) (contents block image)
+    → marked (ending history (atPowerUp straps program slice pause image) .device .controller .marks) block ≡ false
+    → isThere block (ending history (atPowerUp straps program slice pause image)) ≡ false
+    → contents block (ending history (atPowerUp straps program slice pause image) .image)
+    ≡ doneInOrder (operations block history (atPowerUp straps program slice pause image)) (contents block image)
 
 -- and each of its operations was allowed as pins, voltage and lock register stood at its acceptance
 unfoldable pub Demand3Allowed : Type 0
@@ -159,7 +158,7 @@ Demand3Allowed =
     (straps program slice pause : ℕ) (image : List ℕ) (history : List Event) (block : ℕ)
     → length image ≡ 1048576
     → block < 16
-    → allAllowed block (operations block history (powered straps program slice pause image)) ≡ true
+    → allAllowed block (operations block history (atPowerUp straps program slice pause image)) ≡ true
 
 -- the status register tells of no operation: bit 7 is 1, bits 6 and 2 are 0
 abbrev pub tellsNone : ℕ → Bool
@@ -175,4 +174,4 @@ Demand3Run =
     → marked (ranOf image stream answers straps program slice pause .report .marks) block ≡ false
     → tellsNone (ranOf image stream answers straps program slice pause .report .status) ≡ true
     → contents block (ranOf image stream answers straps program slice pause .image)
-    ≡ done (operations block (map clock (samples stream)) (powered straps program slice pause image)) (contents block image)
+    ≡ doneInOrder (operations block (map clock (samples stream)) (atPowerUp straps program slice pause image)) (contents block image)

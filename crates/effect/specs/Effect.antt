@@ -1,20 +1,17 @@
 -- What an effect does to the array. Assumes nothing.
 use Prim.Native.Nat.{ℕ, _+_, _*_, _≤_, _<_}
-use mathlib.Core.List.{List, _++_}
+use mathlib.Core.List.{List}
 use lib.Bits.{bitAnd}
-use lib.ListN.{getD, set, take, drop, replicate}
+use lib.ListN.{getD, set}
+use Rattle.basics.specs.Bytes.{filled}
 use Rattle.effect.specs.declared.Effect.{Effect}
 use Rattle.effect.specs.declared.Effect.the-variants.{Nothing, Program, Fill}
 
--- `count` bytes from `start` on become `value`
-abbrev pub filled : List ℕ → ℕ → ℕ → ℕ → List ℕ
-filled d start count value = take start d ++ replicate count value ++ drop (start + count) d
-
 -- an effect lies inside an array of n bytes
-abbrev pub within : Effect → ℕ → Type 0
-within Nothing n = Unit
-within (Program address byte) n = address < n
-within (Fill start count value) n = start + count ≤ n
+abbrev pub fitsIn : Effect → ℕ → Type 0
+fitsIn Nothing n = Unit
+fitsIn (Program address byte) n = address < n
+fitsIn (Fill start count value) n = start + count ≤ n
 
 -- an effect lies inside a block
 abbrev pub inBlock : ℕ → Effect → Type 0

@@ -1,8 +1,8 @@
 // What a clock does to the array, as a value, and the single function that does it to the image.
+use basics::fill;
 ghost use mathlib.Core.Path.{_≡_};
-ghost use Prim.Native.Nat.{_+_, _≤_};
 ghost use lib.ListN.{length};
-ghost use Rattle.effect.specs.Effect.{filled, within, applied};
+ghost use Rattle.effect.specs.Effect.{fitsIn, applied};
 
 pub enum Effect {
     // The array stays as it is.
@@ -13,19 +13,8 @@ pub enum Effect {
     Fill { start: u32, count: u32, value: u8 },
 }
 
-pub fn fill(image: &mut [u8], start: usize, count: usize, value: u8)
-    requires { ⌜ start + count ≤ length (now image) ⌝ }
-    ensures { λ _. ⌜ now (image .exit) ≡ filled (now (image .entry)) start count value ⌝ }
-{
-    let mut i: usize = 0;
-    while i < count {
-        image[start + i] = value;
-        i += 1;
-    }
-}
-
 pub fn apply(effect: Effect, image: &mut [u8])
-    requires { ⌜ within effect (length (now image)) ⌝ }
+    requires { ⌜ fitsIn effect (length (now image)) ⌝ }
     ensures { λ _. ⌜ now (image .exit) ≡ applied effect (now (image .entry)) ⌝ }
 {
     match effect {

@@ -1,8 +1,8 @@
 // The step over a device that the host keeps: it takes the record out, steps it by value and puts the next one back.
-use clock::step;
 use record::Device;
+use step::step;
 ghost use mathlib.Core.Path.{_≡_};
-ghost use Rattle.clock.specs.Step.{steppedOf, storedOf};
+ghost use Rattle.step.specs.Step.{steppedOf, storedOf};
 ghost use Rattle.inplace.specs.Clocked.{clockedOf};
 
 // The numbered answer of a step and its answer byte; the next device stands where the last one stood.

@@ -6,16 +6,16 @@ use Prim.Native.Nat.{ℕ, zero, suc}
 use Rattle.record.specs.declared.Controller.{Controller}
 use Rattle.record.specs.declared.Device.{Device}
 use Rattle.effect.specs.declared.Effect.{Effect}
-use Rattle.operation.specs.Clock.{countedOf}
+use Rattle.operation.specs.Clock.{controllerClock}
 
 -- n clocks of a controller, and the effects of them
 pub counting : ℕ → Controller → Controller
 counting zero c = c
-counting (suc n) c = counting n (countedOf c .controller)
+counting (suc n) c = counting n (controllerClock c .controller)
 
 pub effects : ℕ → Controller → List Effect
 effects zero c = []
-effects (suc n) c = countedOf c .effect ∷ effects n (countedOf c .controller)
+effects (suc n) c = controllerClock c .effect ∷ effects n (controllerClock c .controller)
 
 pub record Alike (n : ℕ) (d e : Device) : Type 0 where
   pub controllers : counting n (d .controller) ≡ counting n (e .controller)

@@ -4,16 +4,16 @@ use mathlib.Core.Bool.{Bool, true, false, cond}
 use Prim.Native.Nat.{ℕ, _≤_, _<_, _*_}
 use native.Mathlib.Omega.{arith}
 use borrow.Author.Tests.{leb-true, ltb-true, eqb-true, ne-eqb}
-use Rattle.laws.proofs.Rules.{Answer, yes, no, ask, clash}
-use Rattle.laws.proofs.All.{holds}
+use Rattle.basics.proofs.Rules.{Answer, yes, no, ask, clash}
+use Rattle.basics.proofs.All.{holds}
 use Rattle.units.specs.Units.{inClocks, timesFit}
 use Rattle.units.proofs.Ranges.{Ranges, ranges}
 use Rattle.record.specs.declared.Operation.{Operation}
 use Rattle.record.specs.declared.Controller.{Controller}
 use Rattle.record.specs.Record.{isAbsent, isProgram, isErase, isRunning, isSuspended, blockOf}
-use Rattle.device.specs.Sound.{operationFits, leftFits, stateFits, counts, outerFits, innerFits, inside, controllerFits}
+use Rattle.soundness.specs.Sound.{operationFits, leftFits, stateFits, counts, outerFits, innerFits, inside, controllerFits}
 use Rattle.effect.specs.declared.Effect.the-variants.{Nothing}
-use Rattle.operation.specs.Clock.{active, isStill, counted, countedOf}
+use Rattle.operation.specs.Clock.{active, isStill, controllerClocked, controllerClock}
 
 pub record Fits (o : Operation) : Type 0 where
   pub times : timesFit (o .times) ≡ true
@@ -70,6 +70,6 @@ active-fits c e = pick (ask (isAbsent (c .inner)))
     pick (no a) = λ n. rw a (inner-fits c e a)
 
 -- where nothing counts, a clock changes nothing
-pub still-counted : (c : Controller) → isStill (active c) ≡ true → countedOf c ≡ counted c Nothing false
-unfolding countedOf
-still-counted c e = rw e
+pub still-clocked : (c : Controller) → isStill (active c) ≡ true → controllerClock c ≡ controllerClocked c Nothing false
+unfolding controllerClock
+still-clocked c e = rw e

@@ -7,9 +7,9 @@ use native.Mathlib.Omega.{arith}
 use lib.Dec.{eqb, ltb, leb}
 use lib.Bits.{bitAnd}
 use borrow.Author.Tests.{ltb-true, ltb-false, leb-true, eqb-true, eqb-false, lt-ltb, le-leb, ne-eqb}
-use Rattle.laws.specs.All.{all}
-use Rattle.laws.proofs.Rules.{Answer, yes, no, ask, clash}
-use Rattle.laws.proofs.All.{holds, also, none}
+use Rattle.basics.specs.All.{all}
+use Rattle.basics.proofs.Rules.{Answer, yes, no, ask, clash}
+use Rattle.basics.proofs.All.{holds, also, none}
 use Rattle.units.specs.declared.Clocks.{Clocks}
 use Rattle.units.specs.declared.Micros.{Micros}
 use Rattle.units.specs.Units.{clocks, inClocks, timesFit}
@@ -18,12 +18,12 @@ use Rattle.record.specs.declared.Operation.{Operation}
 use Rattle.record.specs.declared.Controller.{Controller}
 use Rattle.record.specs.Record.{isAbsent, isProgram, isErase, isRunning, isPausing, isSuspended, withPause, withLeft, absent, blockOf}
 use Rattle.part.specs.Fresh.{resting}
-use Rattle.device.proofs.Clauses.{Clauses, clauses, made}
-use Rattle.device.specs.declared.Condition.{Condition}
-use Rattle.device.specs.declared.Condition.the-variants.{Ready, Running, Pausing, ProgramSuspended, EraseSuspended, ProgramInside}
-use Rattle.device.specs.Status.{conditionOf}
-use Rattle.device.specs.Sound.{counts, leftFits, stateFits, operationFits, outerFits, apart, inside, innerFits, setupKinds, controllerFits}
-use Rattle.operation.specs.Clock.{active, isStill, pausedOf, tickedOf, marksAfter, replaced, countedOf}
+use Rattle.soundness.proofs.Clauses.{Clauses, clauses, made}
+use Rattle.status.specs.declared.Condition.{Condition}
+use Rattle.status.specs.declared.Condition.the-variants.{Ready, Running, Pausing, ProgramSuspended, EraseSuspended, ProgramInside}
+use Rattle.status.specs.Status.{conditionOf}
+use Rattle.soundness.specs.Sound.{counts, leftFits, stateFits, operationFits, outerFits, apart, inside, innerFits, setupKinds, controllerFits}
+use Rattle.operation.specs.Clock.{active, isStill, pausedOf, operationClock, marksAfter, replaced, controllerClock}
 use Rattle.operation.specs.Reset.{resetOf}
 use Rattle.operation.proofs.Facts.{Fits, fits, Slices, slices, outer-fits, inner-fits, active-fits, moving}
 
@@ -163,11 +163,11 @@ paused-after o n e k a s =
     let m = paused-same n in
     goes (paused-fits n e) (m .kind ∙ k) (m .address ∙ a) (λ r. m .running (ap (λ (x : ℕ). eqb x 0) s ∙ r))
 
-pub ticked-after : (o : Operation) → operationFits o ≡ true → After o (tickedOf o .operation)
-unfolding tickedOf
-ticked-after o e = pick (ask (ltb 1 (o .left .0))) (ask (isProgram o)) (ask (ltb 1 (o .slices)))
+pub operation-clock-after : (o : Operation) → operationFits o ≡ true → After o (operationClock o .operation)
+unfolding operationClock
+operation-clock-after o e = pick (ask (ltb 1 (o .left .0))) (ask (isProgram o)) (ask (ltb 1 (o .slices)))
   where
-    pick : Answer (ltb 1 (o .left .0)) → Answer (isProgram o) → Answer (ltb 1 (o .slices)) → After o (tickedOf o .operation)
+    pick : Answer (ltb 1 (o .left .0)) → Answer (isProgram o) → Answer (ltb 1 (o .slices)) → After o (operationClock o .operation)
     pick (yes a) p s =
         rw a
         (paused-after o (withLeft o (o .slices) (clocks (o .left .0 - 1))) (relleft o (o .slices) (clocks (o .left .0 - 1)) e (left-less o e a)) refl refl refl)
@@ -279,15 +279,15 @@ replaced-fits c n marks e m = pick (ask (isAbsent (c .inner)))
         (inner-after (c .outer) (c .inner) n (k .inner) i (rw i at f))
         (unset c e m))
 
-pub counted-kept : (c : Controller) → controllerFits c ≡ true → controllerFits (countedOf c .controller) ≡ true
-unfolding countedOf
-counted-kept c e = pick (ask (isStill (active c)))
+pub controller-clock-kept : (c : Controller) → controllerFits c ≡ true → controllerFits (controllerClock c .controller) ≡ true
+unfolding controllerClock
+controller-clock-kept c e = pick (ask (isStill (active c)))
   where
-    pick : Answer (isStill (active c)) → controllerFits (countedOf c .controller) ≡ true
+    pick : Answer (isStill (active c)) → controllerFits (controllerClock c .controller) ≡ true
     pick (yes a) = rw a e
     pick (no a) =
         rw a
-        (replaced-fits c _ _ e a (ticked-after (active c) (active-fits c e (moving (active c) a))))
+        (replaced-fits c _ _ e a (operation-clock-after (active c) (active-fits c e (moving (active c) a))))
 
 pub reset-kept : (c : Controller) → controllerFits (resetOf c) ≡ true
 unfolding resetOf

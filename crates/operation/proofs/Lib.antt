@@ -1,6 +1,6 @@
 pub mod Facts
 pub mod Bits
-pub mod Within
+pub mod FitsIn
 pub mod Kept
 pub mod Rest
 pub mod Marked

@@ -8,12 +8,12 @@ use native.Mathlib.Omega.{arith}
 use lib.Bits.{bitAnd, bitOr, and-shr, or-shr, and-mod, or-mod, or-zero-r}
 use lib.Dec.{eqb}
 use borrow.Author.Tests.{eq-eqb, ne-eqb}
-use Rattle.laws.proofs.Rules.{Answer, yes, no, ask, clash}
-use Rattle.laws.proofs.Table.{from, at, at2}
+use Rattle.basics.proofs.Rules.{Answer, yes, no, ask, clash}
+use Rattle.basics.proofs.Table.{from, at, at2}
 use Rattle.record.specs.declared.Controller.{Controller}
 use Rattle.record.specs.Record.{isAbsent, isErase, blockOf}
 use Rattle.operation.specs.Marks.{marked, marking, clearing}
-use Rattle.operation.specs.Clock.{active, isStill, marksAfter, replaced, countedOf}
+use Rattle.operation.specs.Clock.{active, isStill, marksAfter, replaced, controllerClock}
 
 -- the bit of block b in a number
 abbrev bit : ℕ → ℕ → ℕ
@@ -70,29 +70,29 @@ module _ (m c b : ℕ) (h : c < 16) (l : b < 16) where
       rw (and-bit m (65535 - 2 ^ c) b, bit-off c b h l, ne-eqb b c n, and-one (bit m b) (omega arith))
 
 -- the marks after a clock
-pub counted-marks : (c : Controller)
-    → countedOf c .controller .marks
-    ≡ cond (isStill (active c)) (c .marks) (marksAfter (c .marks) (active c) (countedOf c .finished))
-unfolding countedOf replaced
-counted-marks c = pick (ask (isStill (active c))) (ask (isAbsent (c .inner)))
+pub controller-clock-marks : (c : Controller)
+    → controllerClock c .controller .marks
+    ≡ cond (isStill (active c)) (c .marks) (marksAfter (c .marks) (active c) (controllerClock c .finished))
+unfolding controllerClock replaced
+controller-clock-marks c = pick (ask (isStill (active c))) (ask (isAbsent (c .inner)))
   where
     pick : Answer (isStill (active c))
         → Answer (isAbsent (c .inner))
-        → countedOf c .controller .marks
-        ≡ cond (isStill (active c)) (c .marks) (marksAfter (c .marks) (active c) (countedOf c .finished))
+        → controllerClock c .controller .marks
+        ≡ cond (isStill (active c)) (c .marks) (marksAfter (c .marks) (active c) (controllerClock c .finished))
     pick (yes a) i = rw a
     pick (no a) (yes i) = rw (a, i)
     pick (no a) (no i) = rw (a, i)
 
 -- a clock on which no erase finishes leaves every mark
-pub marks-left : (c : Controller) → cond (countedOf c .finished) (isErase (active c)) false ≡ false → countedOf c .controller .marks ≡ c .marks
+pub marks-left : (c : Controller) → cond (controllerClock c .finished) (isErase (active c)) false ≡ false → controllerClock c .controller .marks ≡ c .marks
 unfolding marksAfter
-marks-left c e = counted-marks c ∙ pick (ask (isStill (active c))) (ask (countedOf c .finished)) (ask (isErase (active c)))
+marks-left c e = controller-clock-marks c ∙ pick (ask (isStill (active c))) (ask (controllerClock c .finished)) (ask (isErase (active c)))
   where
     pick : Answer (isStill (active c))
-        → Answer (countedOf c .finished)
+        → Answer (controllerClock c .finished)
         → Answer (isErase (active c))
-        → cond (isStill (active c)) (c .marks) (marksAfter (c .marks) (active c) (countedOf c .finished)) ≡ c .marks
+        → cond (isStill (active c)) (c .marks) (marksAfter (c .marks) (active c) (controllerClock c .finished)) ≡ c .marks
     pick (yes a) f k = rw a
     pick (no a) (no f) k = rw (a, f)
     pick (no a) (yes f) (no k) = rw (a, f, k)

@@ -8,16 +8,17 @@ use native.Mathlib.Omega.{arith}
 use lib.Dec.{ltb}
 use lib.ListN.{length}
 use borrow.Author.Tests.{ltb-true, ltb-false, eqb-false}
-use Rattle.laws.proofs.Rules.{Answer, yes, no, ask}
+use Rattle.basics.proofs.Rules.{Answer, yes, no, ask}
 use Rattle.units.specs.declared.Clocks.{Clocks}
 use Rattle.units.specs.Units.{clocks, inClocks}
 use Rattle.record.specs.declared.Operation.{Operation}
 use Rattle.record.specs.Record.{isAbsent, isProgram, withLeft, absent, blockOf}
 use Rattle.effect.specs.declared.Effect.the-variants.{Program}
-use Rattle.effect.specs.Effect.{filled, applied}
-use Rattle.effect.proofs.Joined.{filled-filled}
-use Rattle.device.specs.Sound.{operationFits}
-use Rattle.operation.specs.Clock.{sliceAt, pausedOf, tickedOf}
+use Rattle.basics.specs.Bytes.{filled}
+use Rattle.effect.specs.Effect.{applied}
+use Rattle.basics.proofs.Joined.{filled-filled}
+use Rattle.soundness.specs.Sound.{operationFits}
+use Rattle.operation.specs.Clock.{sliceAt, pausedOf, operationClock}
 use Rattle.operation.specs.Whole.{rest}
 use Rattle.operation.proofs.Facts.{Fits, fits, Slices, slices}
 use Rattle.operation.proofs.Kept.{Same, paused-same}
@@ -74,15 +75,15 @@ gone : (o : Operation) (d : List ℕ)
 unfolding rest
 gone o d a p = rw (a, p)
 
-pub ticked-rest : (o : Operation) (d : List ℕ)
+pub operation-clock-rest : (o : Operation) (d : List ℕ)
     → operationFits o ≡ true
     → isAbsent o ≡ false
     → length d ≡ 1048576
-    → rest (tickedOf o .operation) (applied (tickedOf o .effect) d) ≡ rest o d
-unfolding tickedOf
-ticked-rest o d e a n = pick (ask (ltb 1 (o .left .0))) (ask (isProgram o)) (ask (ltb 1 (o .slices)))
+    → rest (operationClock o .operation) (applied (operationClock o .effect) d) ≡ rest o d
+unfolding operationClock
+operation-clock-rest o d e a n = pick (ask (ltb 1 (o .left .0))) (ask (isProgram o)) (ask (ltb 1 (o .slices)))
   where
-    pick : Answer (ltb 1 (o .left .0)) → Answer (isProgram o) → Answer (ltb 1 (o .slices)) → rest (tickedOf o .operation) (applied (tickedOf o .effect) d) ≡ rest o d
+    pick : Answer (ltb 1 (o .left .0)) → Answer (isProgram o) → Answer (ltb 1 (o .slices)) → rest (operationClock o .operation) (applied (operationClock o .effect) d) ≡ rest o d
     pick (yes l) p s =
         rw l
         (rest-same (withLeft o (o .slices) (clocks (o .left .0 - 1))) (pausedOf (withLeft o (o .slices) (clocks (o .left .0 - 1)))) d

@@ -9,8 +9,8 @@ use Rattle.record.specs.declared.Controller.{Controller}
 use Rattle.record.specs.Record.{isAbsent, isProgram, isErase, isPausing, isSuspended, withPause, withLeft, absent, blockOf}
 use Rattle.effect.specs.declared.Effect.{Effect}
 use Rattle.effect.specs.declared.Effect.the-variants.{Nothing, Program, Fill}
-use Rattle.operation.specs.declared.Ticked.{Ticked}
-use Rattle.operation.specs.declared.Counted.{Counted}
+use Rattle.operation.specs.declared.OperationClocked.{OperationClocked}
+use Rattle.operation.specs.declared.ControllerClocked.{ControllerClocked}
 use Rattle.operation.specs.Marks.{clearing}
 
 -- the operation that counts: a program inside a suspended erase counts while the erase stands still
@@ -32,18 +32,18 @@ pausedOf o =
 unfoldable pub sliceAt : Operation → ℕ
 sliceAt o = blockOf (o .address) * 65536 + (256 - o .slices) * 256
 
-abbrev pub ticked : Operation → Effect → Bool → Ticked
-ticked o e finished = record { operation = o; effect = e; finished = finished }
+abbrev pub operationClocked : Operation → Effect → Bool → OperationClocked
+operationClocked o e finished = record { operation = o; effect = e; finished = finished }
 
 -- an operation counts one clock. A program stores its byte on its last clock; an erase fills a slice at the end of
 -- the slice's time. An operation that ends on this clock is finished, and a pause that it had is dropped with it
-unfoldable pub tickedOf : Operation → Ticked
-tickedOf o =
-    cond (ltb 1 (o .left .0)) (ticked (pausedOf (withLeft o (o .slices) (clocks (o .left .0 - 1)))) Nothing false)
-    (cond (isProgram o) (ticked absent (Program (o .address) (o .«data»)) true)
+unfoldable pub operationClock : Operation → OperationClocked
+operationClock o =
+    cond (ltb 1 (o .left .0)) (operationClocked (pausedOf (withLeft o (o .slices) (clocks (o .left .0 - 1)))) Nothing false)
+    (cond (isProgram o) (operationClocked absent (Program (o .address) (o .«data»)) true)
     (cond (ltb 1 (o .slices))
-    (ticked (pausedOf (withLeft o (o .slices - 1) (inClocks (o .times .slice)))) (Fill (sliceAt o) 256 255) false)
-    (ticked absent (Fill (sliceAt o) 256 255) true)))
+    (operationClocked (pausedOf (withLeft o (o .slices - 1) (inClocks (o .times .slice)))) (Fill (sliceAt o) 256 255) false)
+    (operationClocked absent (Fill (sliceAt o) 256 255) true)))
 
 -- a finished erase removes its block's mark, and nothing else does
 unfoldable pub marksAfter : ℕ → Operation → Bool → ℕ
@@ -56,13 +56,13 @@ replaced c o marks =
     (record { mode = c .mode; errors = c .errors; setup = c .setup; marks = marks; outer = o; inner = c .inner })
     (record { mode = c .mode; errors = c .errors; setup = c .setup; marks = marks; outer = c .outer; inner = o })
 
-abbrev pub counted : Controller → Effect → Bool → Counted
-counted c e finished = record { controller = c; effect = e; finished = finished }
+abbrev pub controllerClocked : Controller → Effect → Bool → ControllerClocked
+controllerClocked c e finished = record { controller = c; effect = e; finished = finished }
 
-abbrev pub after : Controller → Ticked → Counted
-after c t =
-    counted (replaced c (t .operation) (marksAfter (c .marks) (active c) (t .finished))) (t .effect) (t .finished)
+abbrev pub withClocked : Controller → OperationClocked → ControllerClocked
+withClocked c t =
+    controllerClocked (replaced c (t .operation) (marksAfter (c .marks) (active c) (t .finished))) (t .effect) (t .finished)
 
 -- one clock of the controller
-unfoldable pub countedOf : Controller → Counted
-countedOf c = cond (isStill (active c)) (counted c Nothing false) (after c (tickedOf (active c)))
+unfoldable pub controllerClock : Controller → ControllerClocked
+controllerClock c = cond (isStill (active c)) (controllerClocked c Nothing false) (withClocked c (operationClock (active c)))

@@ -5,7 +5,8 @@ use mathlib.Core.List.{List}
 use Rattle.record.specs.declared.Operation.{Operation}
 use Rattle.record.specs.Record.{isAbsent, isProgram}
 use Rattle.effect.specs.declared.Effect.the-variants.{Program}
-use Rattle.effect.specs.Effect.{filled, applied}
+use Rattle.basics.specs.Bytes.{filled}
+use Rattle.effect.specs.Effect.{applied}
 use Rattle.operation.specs.Clock.{sliceAt}
 
 -- what is left of an operation, done to the array at once: a program's byte, or the slices that an erase has still to fill

@@ -5,15 +5,16 @@ use part::Part;
 use part::block_of;
 use record::Controller;
 use record::Operation;
+use record::no_operation;
 use units::Clocks;
 use units::in_clocks;
 ghost use mathlib.Core.Path.{_≡_};
 ghost use mathlib.Core.Bool.{true, false};
 ghost use Prim.Native.Nat.{_<_};
 ghost use Rattle.record.specs.Record.{isAbsent};
-ghost use Rattle.device.specs.Sound.{operationFits, controllerFits};
+ghost use Rattle.soundness.specs.Sound.{operationFits, controllerFits};
 ghost use Rattle.operation.specs.Marks.{marking, clearing};
-ghost use Rattle.operation.specs.Clock.{active, isStill, sliceAt, pausedOf, tickedOf, marksAfter, replaced, countedOf};
+ghost use Rattle.operation.specs.Clock.{active, isStill, sliceAt, pausedOf, operationClock, marksAfter, replaced, controllerClock};
 ghost use Rattle.operation.specs.Reset.{markedBy, resetOf};
 
 // The marks with that of a block set.
@@ -33,14 +34,14 @@ fn unmark(marks: u16, block: u32) -> u16
 }
 
 // An operation after a clock, what the clock did to the array, and whether the operation finished.
-pub struct Ticked {
+pub struct OperationClocked {
     pub operation: Operation,
     pub effect: Effect,
     pub finished: bool,
 }
 
 // The controller after a clock, likewise.
-pub struct Counted {
+pub struct ControllerClocked {
     pub controller: Controller,
     pub effect: Effect,
     pub finished: bool,
@@ -75,23 +76,23 @@ fn slice_start(o: Operation) -> u32
 }
 
 // One clock of an operation that runs or is pausing.
-pub fn tick(o: Operation) -> Ticked
+pub fn clock_operation(o: Operation) -> OperationClocked
     requires { ⌜ operationFits o ≡ true ⌝ }
-    ensures { λ r. ⌜ r ≡ tickedOf o ⌝ }
+    ensures { λ r. ⌜ r ≡ operationClock o ⌝ }
 {
     if 1 < o.left.0 {
         let less = Clocks(o.left.0 - 1);
         let mut next = o;
         next.left = less;
-        return Ticked {
+        return OperationClocked {
             operation: paused(next),
             effect: Effect::Nothing,
             finished: false,
         };
     }
     if o.kind == 1 {
-        return Ticked {
-            operation: Part::absent(),
+        return OperationClocked {
+            operation: no_operation(),
             effect: Effect::Program {
                 address: o.address,
                 data: o.data,
@@ -111,14 +112,14 @@ pub fn tick(o: Operation) -> Ticked
         let mut next = o;
         next.slices = o.slices - 1;
         next.left = full;
-        return Ticked {
+        return OperationClocked {
             operation: paused(next),
             effect,
             finished: false,
         };
     }
-    Ticked {
-        operation: Part::absent(),
+    OperationClocked {
+        operation: no_operation(),
         effect,
         finished: true,
     }
@@ -174,22 +175,22 @@ pub fn replace(c: Controller, o: Operation, marks: u16) -> Controller
 }
 
 // One clock of the controller.
-pub fn count(c: Controller) -> Counted
+pub fn clock_controller(c: Controller) -> ControllerClocked
     requires { ⌜ controllerFits c ≡ true ⌝ }
-    ensures { λ r. ⌜ r ≡ countedOf c ⌝ }
+    ensures { λ r. ⌜ r ≡ controllerClock c ⌝ }
 {
     let o = active_of(c);
     if is_still(o) {
-        return Counted {
+        return ControllerClocked {
             controller: c,
             effect: Effect::Nothing,
             finished: false,
         };
     }
-    let t = tick(o);
+    let t = clock_operation(o);
     let next = t.operation;
     let effect = t.effect;
-    Counted {
+    ControllerClocked {
         controller: replace(c, next, marks_after(c.marks, o, t.finished)),
         effect,
         finished: t.finished,

@@ -10,7 +10,7 @@ use lib.Seq.{drop-cons}
 use borrow.Author.Tests.{eq-eqb, ne-eqb}
 use Rattle.part.specs.declared.Entry.{Entry}
 use Rattle.part.specs.Registers.{registers, firstAt, registerAt}
-use Rattle.laws.proofs.Table.{at}
+use Rattle.basics.proofs.Table.{at}
 
 module _ (t : List Entry) (i a : ℕ) (d : Entry) (h : i < length t) where
   pub hit : getD t i d .at ≡ a → firstAt (drop i t) a ≡ getD t i d .what

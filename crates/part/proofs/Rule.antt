@@ -9,16 +9,16 @@ use lib.Dec.{eqb, ltb}
 use borrow.Author.Tests.{ne-eqb, ltb-true}
 use Rattle.part.specs.declared.Entry.{Entry}
 use Rattle.part.specs.declared.Register.{Register}
-use Rattle.part.specs.declared.Register.the-variants.{Lock, Inputs, Maker, Device, Missing}
+use Rattle.part.specs.declared.Register.the-variants.{Lock, Inputs, MakerCode, DeviceCode, Missing}
 use Rattle.part.specs.Registers.{lockAddress, registers, firstAt, registerAt}
-use Rattle.laws.proofs.Rules.{and-left, and-right}
-use Rattle.laws.proofs.Table.{at}
+use Rattle.basics.proofs.Rules.{and-left, and-right}
+use Rattle.basics.proofs.Table.{at}
 
 pub lock-at : (b : ℕ) → b < 16 → registerAt (lockAddress b) ≡ Lock b
 unfolding registerAt
 lock-at b h = sym (at (λ (k : ℕ). registerAt (lockAddress k)) 16 b Missing h) ∙ at (λ (k : ℕ). Lock k) 16 b Missing h
 
-pub others-at : (registerAt 0xFBC0100 ≡ Inputs) × (registerAt 0xFBC0000 ≡ Maker) × (registerAt 0xFBC0001 ≡ Device)
+pub others-at : (registerAt 0xFBC0100 ≡ Inputs) × (registerAt 0xFBC0000 ≡ MakerCode) × (registerAt 0xFBC0001 ≡ DeviceCode)
 unfolding registerAt
 others-at = (refl, refl, refl)
 
@@ -37,8 +37,8 @@ none-at a d h = none-of registers a d h
 abbrev belowTop : Register → Bool
 belowTop (Lock b) = ltb b 16
 belowTop Inputs = true
-belowTop Maker = true
-belowTop Device = true
+belowTop MakerCode = true
+belowTop DeviceCode = true
 belowTop Missing = true
 
 abbrev allBelowTop : List Entry → Bool

@@ -6,7 +6,7 @@ use mathlib.Core.List.{List, [], _∷_, _++_}
 use lib.Dec.{eqb}
 use Rattle.part.specs.declared.Entry.{Entry}
 use Rattle.part.specs.declared.Register.{Register}
-use Rattle.part.specs.declared.Register.the-variants.{Lock, Inputs, Maker, Device, Missing}
+use Rattle.part.specs.declared.Register.the-variants.{Lock, Inputs, MakerCode, DeviceCode, Missing}
 
 abbrev pub lockAddress : ℕ → ℕ
 lockAddress block = 0xFB00002 + block * 0x10000
@@ -20,7 +20,7 @@ locksFrom b zero = []
 locksFrom b (suc n) = entry (lockAddress b) (Lock b) ∷ locksFrom (suc b) n
 
 abbrev pub registers : List Entry
-registers = locksFrom 0 16 ++ (entry 0xFBC0100 Inputs ∷ entry 0xFBC0000 Maker ∷ entry 0xFBC0001 Device ∷ [])
+registers = locksFrom 0 16 ++ (entry 0xFBC0100 Inputs ∷ entry 0xFBC0000 MakerCode ∷ entry 0xFBC0001 DeviceCode ∷ [])
 
 -- the first of some entries at an address
 abbrev pub firstAt : List Entry → ℕ → Register

@@ -1,13 +1,11 @@
 // The part: its fixed numbers, its fresh device, its blocks and the table of its registers.
 use record::Controller;
 use record::Device;
-use record::Frame;
-use record::Operation;
-use units::Clocks;
-use units::Micros;
+use record::idle_frame;
+use record::no_operation;
 use units::Times;
 ghost use mathlib.Core.Path.{_≡_};
-ghost use Rattle.record.specs.Record.{absent, blockOf};
+ghost use Rattle.record.specs.Record.{blockOf};
 ghost use Rattle.part.specs.Fresh.{resting, freshOf};
 ghost use Rattle.part.specs.Registers.{registerAt};
 
@@ -15,9 +13,9 @@ ghost use Rattle.part.specs.Registers.{registerAt};
 pub struct Part;
 
 impl Part {
-    pub const MAKER: u8 = 0x20;
+    pub const MAKER_CODE: u8 = 0x20;
 
-    pub const DEVICE: u8 = 0x2D;
+    pub const DEVICE_CODE: u8 = 0x2D;
 
     pub const BYTES: usize = 1048576;
 
@@ -27,32 +25,11 @@ impl Part {
 
     pub const TOP_BLOCK: u32 = 15;
 
-    // No operation.
-    pub fn absent() -> Operation
-        ensures { λ r. ⌜ r ≡ absent ⌝ }
-    {
-        let none = Times {
-            program: Micros(0),
-            slice: Micros(0),
-            pause: Micros(0),
-        };
-        Operation {
-            kind: 0,
-            state: 0,
-            data: 0,
-            address: 0,
-            slices: 0,
-            left: Clocks(0),
-            pause: Clocks(0),
-            times: none,
-        }
-    }
-
     // A controller at rest: reading the array, no error bits, no setup, no operation.
     pub fn resting(marks: u16) -> Controller
         ensures { λ r. ⌜ r ≡ resting marks ⌝ }
     {
-        let none = Part::absent();
+        let none = no_operation();
         Controller {
             mode: 0,
             errors: 0,
@@ -67,17 +44,13 @@ impl Part {
     pub fn fresh(straps: u8, times: Times) -> Device
         ensures { λ r. ⌜ r ≡ freshOf straps times ⌝ }
     {
+        let frame = idle_frame();
         let controller = Part::resting(0);
         Device {
             straps,
             locks: [1; 16],
             times,
-            frame: Frame {
-                kind: 0,
-                clock: 0,
-                byte: 0,
-                address: 0,
-            },
+            frame,
             controller,
         }
     }
@@ -94,8 +67,8 @@ pub fn block_of(address: u32) -> u32
 pub enum Register {
     Lock(u8),
     Inputs,
-    Maker,
-    Device,
+    MakerCode,
+    DeviceCode,
     Missing,
 }
 
@@ -176,11 +149,11 @@ const REGISTERS: [Entry; 19] = [
     },
     Entry {
         at: 0xFBC0000,
-        what: Register::Maker,
+        what: Register::MakerCode,
     },
     Entry {
         at: 0xFBC0001,
-        what: Register::Device,
+        what: Register::DeviceCode,
     },
 ];
 

@@ -1,32 +1,32 @@
 // The C face: each function hands its arguments to the room that has the work. What C must promise is said in pod.h.
-use clock::Stepped;
-use device::Powered;
+use power::Powered;
 use record::Device;
 use settle::Settled;
 use sheet::Sheet;
+use step::Stepped;
 use stream::Report;
-use view::Part;
+use view::Piece;
 ghost use mathlib.Core.Path.{_≡_};
-ghost use Rattle.device.specs.Power.{poweredUp, timesSet};
-ghost use Rattle.device.specs.Told.{statusTold, marksTold};
-ghost use Rattle.clock.specs.Step.{steppedOf, storedOf};
+ghost use Rattle.power.specs.Power.{poweredUp, timesSet};
+ghost use Rattle.power.specs.Told.{statusTold, marksTold};
+ghost use Rattle.step.specs.Step.{steppedOf, storedOf};
 ghost use Rattle.settle.specs.Settle.{settledOf, imageSettled};
 ghost use Rattle.stream.specs.Run.{ran, ranOf};
-ghost use Rattle.sheet.specs.Sheet.{readOf, numbersOf, written, writeOf};
-ghost use Rattle.view.specs.Shown.{partShown};
+ghost use Rattle.sheet.specs.Sheet.{readOf, numbersOf, sheetWritten, writeOf};
+ghost use Rattle.view.specs.Shown.{pieceShown};
 
 #[no_mangle]
 pub extern "C" fn pod_power_up(straps: u32, program: u32, slice: u32, pause: u32) -> Powered
     ensures { λ r. ⌜ r ≡ poweredUp straps program slice pause ⌝ }
 {
-    device::power_up(straps, program, slice, pause)
+    power::power_up(straps, program, slice, pause)
 }
 
 #[no_mangle]
 pub extern "C" fn pod_set_times(device: Device, program: u32, slice: u32, pause: u32) -> Powered
     ensures { λ r. ⌜ r ≡ timesSet device program slice pause ⌝ }
 {
-    device::set_times(device, program, slice, pause)
+    power::set_times(device, program, slice, pause)
 }
 
 #[no_mangle]
@@ -34,7 +34,7 @@ pub extern "C" fn pod_step(device: Device, image: &mut [u8], sample: u16) -> Ste
     ensures { λ r. ⌜ (r ≡ steppedOf device (now (image .entry)) sample)
         × (now (image .exit) ≡ storedOf device (now (image .entry)) sample) ⌝ }
 {
-    clock::step(device, image, sample)
+    step::step(device, image, sample)
 }
 
 #[no_mangle]
@@ -76,28 +76,28 @@ pub extern "C" fn pod_sheet_write(
     slice: u32,
     pause: u32,
 ) -> u32
-    ensures { λ r. ⌜ written r (now (buffer .exit)) ≡ writeOf (now (buffer .entry)) straps program slice pause ⌝ }
+    ensures { λ r. ⌜ sheetWritten r (now (buffer .exit)) ≡ writeOf (now (buffer .entry)) straps program slice pause ⌝ }
 {
     sheet::write(buffer, straps, program, slice, pause)
 }
 
 #[no_mangle]
-pub extern "C" fn pod_view(device: Device, image: &[u8], page: &[u8], block: u32) -> Part
-    ensures { λ r. ⌜ r ≡ partShown device (now (image .entry)) (now (page .entry)) block ⌝ }
+pub extern "C" fn pod_view(device: Device, image: &[u8], page: &[u8], block: u32) -> Piece
+    ensures { λ r. ⌜ r ≡ pieceShown device (now (image .entry)) (now (page .entry)) block ⌝ }
 {
-    view::part_shown(device, image, page, block)
+    view::piece_shown(device, image, page, block)
 }
 
 #[no_mangle]
 pub extern "C" fn pod_status(device: Device) -> u32
     ensures { λ r. ⌜ r ≡ statusTold device ⌝ }
 {
-    device::status_told(device)
+    power::status_told(device)
 }
 
 #[no_mangle]
 pub extern "C" fn pod_marks(device: Device) -> u32
     ensures { λ r. ⌜ r ≡ marksTold device ⌝ }
 {
-    device::marks_told(device)
+    power::marks_told(device)
 }

@@ -1,5 +1,10 @@
--- Document 01, "Sample, answer, times": the sixteen bits of a sample. Assumes nothing.
-use Prim.Native.Nat.{ℕ, _/_, _%_}
+-- Document 01, "Sample, answer, times": the sixteen bits of a sample, what they say together, and a stream of bytes as
+-- samples. Assumes nothing.
+use Prim.Native.Nat.{ℕ, _+_, _*_, _/_, _%_}
+use mathlib.Core.Bool.{Bool, true, false, cond}
+use mathlib.Core.List.{List, [], _∷_}
+use lib.Dec.{eqb}
+use lib.ListN.{getD}
 
 -- bits 0-3, the lines as the host leaves them
 abbrev pub lines : ℕ → ℕ
@@ -32,3 +37,21 @@ voltage sample = sample / 512 % 4
 -- bits 11-15, FGPI0 to FGPI4
 abbrev pub inputs : ℕ → ℕ
 inputs sample = sample / 2048
+
+-- RP or INIT low
+unfoldable pub isReset : ℕ → Bool
+isReset sample = cond (eqb (rp sample) 0) true (eqb (init sample) 0)
+
+-- frame line, RP and INIT are high: the sample neither resets, nor ends or begins a frame
+unfoldable pub isIdleSample : ℕ → Bool
+isIdleSample sample = cond (isReset sample) false (eqb (frameLine sample) 1)
+
+-- a sample is two bytes, lower first
+abbrev pub samples : List ℕ → List ℕ
+samples [] = []
+samples (l ∷ []) = []
+samples (l ∷ h ∷ bytes) = (l + 256 * h) ∷ samples bytes
+
+-- the sample at place k of a stream
+abbrev pub sampleAt : List ℕ → ℕ → ℕ
+sampleAt stream k = getD stream (2 * k) 0 + 256 * getD stream (2 * k + 1) 0

@@ -6,15 +6,15 @@ use Prim.Native.Nat.{ℕ}
 use lib.Dec.{eqb}
 use lib.ListN.{length}
 use borrow.Author.Tests.{ne-eqb, eqb-true, eqb-false}
-use Rattle.laws.proofs.Rules.{ask, yes, no}
+use Rattle.basics.proofs.Rules.{ask, yes, no}
 use Rattle.record.specs.declared.Device.{Device}
-use Rattle.record.specs.Sample.{voltage}
-use Rattle.device.specs.Sound.{soundOf}
+use Rattle.record.specs.Sample.{voltage, isIdleSample}
+use Rattle.soundness.specs.Sound.{soundOf}
 use Rattle.clock.specs.Fold.{world}
-use Rattle.settle.specs.Settle.{isRestless, stop, settling, settleNumber, settled, stopNumber, settledOf, imageSettled}
+use Rattle.settle.specs.Settle.{stop, settling, settleNumber, settled, stopNumber, settledOf, imageSettled}
 
 module _ (d : Device) (image : List ℕ) (sample : ℕ) {number : ℕ} (e : number ≡ settleNumber d image sample) where
-  pub accepts : number ≡ 0 → (soundOf d ≡ true) × ((length image ≡ 1048576) × (isRestless sample ≡ false))
+  pub accepts : number ≡ 0 → (soundOf d ≡ true) × ((length image ≡ 1048576) × (isIdleSample sample ≡ true))
   unfolding settleNumber
   accepts n =
       let z = sym e ∙ n in
@@ -22,9 +22,9 @@ module _ (d : Device) (image : List ℕ) (sample : ℕ) {number : ℕ} (e : numb
         | yes s ↦ elim (ask (eqb (length image) 1048576)) [
           | yes l ↦ elim (ask (eqb (voltage sample) 3)) [
             | yes v ↦ absurd (eqb-false 7 0 refl (rw (s, l, v) at z))
-            | no v ↦ elim (ask (isRestless sample)) [
-              | yes r ↦ absurd (eqb-false 9 0 refl (rw (s, l, v, r) at z))
-              | no r ↦ (s, (eqb-true (length image) 1048576 l, r))
+            | no v ↦ elim (ask (isIdleSample sample)) [
+              | yes r ↦ (s, (eqb-true (length image) 1048576 l, r))
+              | no r ↦ absurd (eqb-false 9 0 refl (rw (s, l, v, r) at z))
             ]
           ]
           | no l ↦ absurd (eqb-false 2 0 refl (rw (s, l) at z))

@@ -8,12 +8,12 @@ use native.Mathlib.Omega.{arith}
 use lib.Dec.{eqb}
 use lib.ListN.{length}
 use borrow.Author.Tests.{eqb-true, eqb-false}
-use Rattle.laws.proofs.Rules.{ask, yes, no}
+use Rattle.basics.proofs.Rules.{ask, yes, no}
 use Rattle.record.specs.declared.Device.{Device}
-use Rattle.record.specs.Sample.{voltage}
-use Rattle.device.specs.Sound.{soundOf}
+use Rattle.record.specs.Sample.{voltage, isIdleSample}
+use Rattle.soundness.specs.Sound.{soundOf}
 use Rattle.clock.specs.Fold.{world, repeated}
-use Rattle.settle.specs.Settle.{isReady, isRestless, settling, settleNumber, settled, stopNumber, outcome, settledOf, imageSettled}
+use Rattle.settle.specs.Settle.{isReady, settling, settleNumber, settled, stopNumber, stopped, settledOf, imageSettled}
 use Rattle.settle.proofs.Turns.{stops}
 use Rattle.settle.proofs.Doors.{finishes, refuses}
 use Rattle.settle.proofs.Least.{least, exhausted-all}
@@ -34,7 +34,7 @@ module _ (d : Device) (image : List ℕ) (sample : ℕ) where
         | yes e ↦ elim (ask (eqb (length image) 1048576)) [
           | yes l ↦ elim (ask (eqb (voltage sample) 3)) [
             | yes v ↦ rw (e, l, v) (omega arith)
-            | no v ↦ elim (ask (isRestless sample)) [ yes r ↦ rw (e, l, v, r) (omega arith) | no r ↦ rw (e, l, v, r) (omega arith) ]
+            | no v ↦ elim (ask (isIdleSample sample)) [ yes r ↦ rw (e, l, v, r) (omega arith) | no r ↦ rw (e, l, v, r) (omega arith) ]
           ]
           | no l ↦ rw (e, l) (omega arith)
         ]
@@ -50,7 +50,7 @@ module _ (d : Device) (image : List ℕ) (sample : ℕ) where
 
     -- and otherwise all is told by where the repeating stopped
     pub accepted : settleNumber d image sample ≡ 0
-        → (settledOf d image sample limit ≡ outcome (settling sample limit 0 (world d image)))
+        → (settledOf d image sample limit ≡ stopped (settling sample limit 0 (world d image)))
         × (imageSettled d image sample limit ≡ settling sample limit 0 (world d image) .world .image)
     accepted n = let f = finishes d image sample refl limit n refl in (sym (f .0), sym (f .1))
 

@@ -8,7 +8,7 @@ use native.Mathlib.Numerals.{add-one}
 use native.Mathlib.Omega.{arith}
 use lib.Dec.{ltb}
 use borrow.Author.Tests.{ltb-true, ltb-false}
-use Rattle.laws.proofs.Rules.{ask, yes, no, clash}
+use Rattle.basics.proofs.Rules.{ask, yes, no, clash}
 use Rattle.clock.specs.Fold.{World, onward, repeated}
 use Rattle.settle.specs.Settle.{isReady, Stop, stop, settling}
 

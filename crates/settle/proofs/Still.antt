@@ -6,17 +6,17 @@ use native.Mathlib.Omega.{arith}
 use lib.Bits.{bitAnd, bitOr, and-le-r}
 use lib.Dec.{eqb}
 use borrow.Author.Tests.{eqb-true}
-use Rattle.laws.proofs.Rules.{Answer, yes, no, ask}
-use Rattle.laws.proofs.All.{holds}
-use Rattle.laws.proofs.Table.{at}
+use Rattle.basics.proofs.Rules.{Answer, yes, no, ask}
+use Rattle.basics.proofs.All.{holds}
+use Rattle.basics.proofs.Table.{at}
 use Rattle.record.specs.declared.Controller.{Controller}
 use Rattle.record.specs.declared.Device.{Device}
 use Rattle.record.specs.Record.{isAbsent, isProgram, isRunning, isPausing}
-use Rattle.device.specs.declared.Condition.{Condition}
-use Rattle.device.specs.declared.Condition.the-variants.{Ready, Running, Pausing, ProgramSuspended, EraseSuspended, ProgramInside}
-use Rattle.device.specs.Status.{conditionOf, conditionBits, statusOf}
-use Rattle.device.specs.Sound.{controllerFits, innerFits, inside}
-use Rattle.device.proofs.Clauses.{clauses}
+use Rattle.status.specs.declared.Condition.{Condition}
+use Rattle.status.specs.declared.Condition.the-variants.{Ready, Running, Pausing, ProgramSuspended, EraseSuspended, ProgramInside}
+use Rattle.status.specs.Status.{conditionOf, conditionBits, statusOf}
+use Rattle.soundness.specs.Sound.{controllerFits, innerFits, inside}
+use Rattle.soundness.proofs.Clauses.{clauses}
 use Rattle.operation.specs.Clock.{active, isStill}
 use Rattle.operation.proofs.Facts.{outer-fits}
 use Rattle.operation.proofs.Kept.{suspended-else}

@@ -5,8 +5,8 @@ use mathlib.Core.List.{List}
 use Prim.Native.Nat.{ℕ, zero, suc, _+_}
 use native.Mathlib.Numerals.{add-one}
 use Rattle.record.specs.declared.Device.{Device}
-use Rattle.clock.specs.declared.Advanced.{Advanced}
-use Rattle.clock.specs.Clock.{advancedOf, imageAfter}
+use Rattle.clock.specs.declared.DeviceClocked.{DeviceClocked}
+use Rattle.clock.specs.Clock.{deviceClock, imageAfter}
 use Rattle.clock.specs.Fold.{World, world, onward}
 use Rattle.settle.specs.Settle.{isReady, stop, settling}
 
@@ -16,10 +16,10 @@ module _ (sample : ℕ) where
   stops (suc n) count w e = rw e
 
   -- from what the clock gave
-  pub goes-on : (n left count : ℕ) (d : Device) (image : List ℕ) (a : Advanced) (later : List ℕ)
+  pub goes-on : (n left count : ℕ) (d : Device) (image : List ℕ) (a : DeviceClocked) (later : List ℕ)
       → n ≡ left + 1
       → isReady d ≡ false
-      → a ≡ advancedOf d image sample
+      → a ≡ deviceClock d image sample
       → later ≡ imageAfter d image sample
       → settling sample left (count + 1) (world (a .device) later) ≡ settling sample n count (world d image)
   unfolding onward

@@ -6,9 +6,9 @@ use mathlib.Core.List.{List}
 use lib.Dec.{eqb}
 use lib.ListN.{length}
 use Rattle.record.specs.declared.Device.{Device}
-use Rattle.record.specs.Sample.{frameLine, rp, init, voltage}
-use Rattle.device.specs.Status.{statusOf}
-use Rattle.device.specs.Sound.{soundOf}
+use Rattle.record.specs.Sample.{voltage, isIdleSample}
+use Rattle.status.specs.Status.{statusOf}
+use Rattle.soundness.specs.Sound.{soundOf}
 use Rattle.clock.specs.Fold.{World, world, onward}
 use Rattle.settle.specs.declared.Settled.{Settled}
 
@@ -31,16 +31,12 @@ settling sample zero count w = stop count (isReady (w .device)) w
 settling sample (suc n) count w =
     cond (isReady (w .device)) (stop count true w) (settling sample n (count + 1) (onward w sample))
 
--- the sample to repeat has the frame line, RP or INIT low
-unfoldable pub isRestless : ℕ → Bool
-isRestless sample =
-    cond (eqb (frameLine sample) 0) true (cond (eqb (rp sample) 0) true (eqb (init sample) 0))
-
--- which refusal a settle meets before it begins, 0 for none: 1, 2, 7, 9, lowest first
+-- which refusal a settle meets before it begins, 0 for none: 1, 2, 7, 9, lowest first. 9 is for a sample to repeat that
+-- has the frame line, RP or INIT low
 unfoldable pub settleNumber : Device → List ℕ → ℕ → ℕ
 settleNumber d image sample =
     cond (soundOf d)
-    (cond (eqb (length image) 1048576) (cond (eqb (voltage sample) 3) 7 (cond (isRestless sample) 9 0)) 2)
+    (cond (eqb (length image) 1048576) (cond (eqb (voltage sample) 3) 7 (cond (isIdleSample sample) 0 9)) 2)
     1
 
 abbrev pub settled : ℕ → ℕ → Device → Settled
@@ -50,12 +46,12 @@ settled number count d = record { number = number; count = count; device = d }
 abbrev pub stopNumber : Bool → ℕ
 stopNumber ready = cond ready 0 10
 
-abbrev pub outcome : Stop → Settled
-outcome s = settled (stopNumber (s .ready)) (s .count) (s .world .device)
+abbrev pub stopped : Stop → Settled
+stopped s = settled (stopNumber (s .ready)) (s .count) (s .world .device)
 
 unfoldable pub settledOf : Device → List ℕ → ℕ → ℕ → Settled
 settledOf d image sample limit =
-    cond (eqb (settleNumber d image sample) 0) (outcome (settling sample limit 0 (world d image)))
+    cond (eqb (settleNumber d image sample) 0) (stopped (settling sample limit 0 (world d image)))
     (settled (settleNumber d image sample) 0 d)
 
 -- the image after the call

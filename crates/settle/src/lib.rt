@@ -1,18 +1,21 @@
 // Settle: one idle sample repeated until status bit 7 is 1, or as often as is allowed.
-use clock::advance;
-use device::sound;
-use device::status;
-use lapse::pass;
+use clock::clock_device;
+use fast_forward::forward;
 use part::Part;
 use record::Controller;
 use record::Device;
+use record::is_idle_sample;
+use record::voltage;
+use soundness::sound;
+use status::status;
 ghost use mathlib.Core.Path.{_≡_};
 ghost use mathlib.Core.Bool.{true, false};
 ghost use lib.ListN.{length};
-ghost use Rattle.device.specs.Sound.{soundOf};
+ghost use Rattle.record.specs.Sample.{isIdleSample};
+ghost use Rattle.soundness.specs.Sound.{soundOf};
 ghost use Rattle.access.specs.Write.{withController};
 ghost use Rattle.clock.specs.Fold.{world};
-ghost use Rattle.settle.specs.Settle.{isReady, isRestless, stop, settling, settleNumber, stopNumber, settledOf, imageSettled};
+ghost use Rattle.settle.specs.Settle.{isReady, stop, settling, settleNumber, stopNumber, settledOf, imageSettled};
 
 // The numbered answer of a settle, how many samples were done, and the device after them.
 #[repr(C)]
@@ -37,19 +40,6 @@ fn is_ready(d: Device) -> bool
     status(c) / 128 % 2 == 1
 }
 
-// Whether the frame line, RP or INIT is low.
-fn is_restless(sample: u16) -> bool
-    ensures { λ r. ⌜ r ≡ isRestless sample ⌝ }
-{
-    if sample / 16 % 2 == 0 {
-        return true;
-    }
-    if sample / 32 % 2 == 0 {
-        return true;
-    }
-    sample / 64 % 2 == 0
-}
-
 // The device with another controller.
 fn with_controller(d: Device, c: Controller) -> Device
     ensures { λ r. ⌜ r ≡ withController d c ⌝ }
@@ -64,7 +54,7 @@ fn with_controller(d: Device, c: Controller) -> Device
 fn wait(device: Device, image: &mut [u8], sample: u16, limit: u32) -> Waited
     requires { ⌜ soundOf device ≡ true ⌝ }
     requires { ⌜ length (now image) ≡ 1048576 ⌝ }
-    requires { ⌜ isRestless sample ≡ false ⌝ }
+    requires { ⌜ isIdleSample sample ≡ true ⌝ }
     ensures { λ r. ⌜ stop (r .count) (r .ready) (world (r .device) (now (image .exit)))
         ≡ settling sample limit 0 (world device (now (image .entry))) ⌝ }
 {
@@ -79,7 +69,7 @@ fn wait(device: Device, image: &mut [u8], sample: u16, limit: u32) -> Waited
             };
         }
         if d.frame.kind == 0 {
-            let p = pass(d.controller, image, limit - count);
+            let p = forward(d.controller, image, limit - count);
             let last = with_controller(d, p.controller);
             return Waited {
                 count: count + p.count,
@@ -87,7 +77,7 @@ fn wait(device: Device, image: &mut [u8], sample: u16, limit: u32) -> Waited
                 device: last,
             };
         }
-        let a = advance(d, image, sample);
+        let a = clock_device(d, image, sample);
         d = a.device;
         count += 1;
     }
@@ -104,13 +94,13 @@ fn settle_number(device: Device, image: &[u8], sample: u16) -> u32
 {
     if sound(device) {
         if image.len() == Part::BYTES {
-            if sample / 512 % 4 == 3 {
+            if voltage(sample) == 3 {
                 return 7;
             }
-            if is_restless(sample) {
-                return 9;
+            if is_idle_sample(sample) {
+                return 0;
             }
-            return 0;
+            return 9;
         }
         return 2;
     }

@@ -9,13 +9,14 @@ use borrow.Author.Tests.{lt-ltb, le-ltb, ltb-true, ltb-false}
 use lib.Dec.{ltb}
 use lib.ListN.{length, getD, take, drop}
 use lib.Seq.{take-at}
-use Rattle.laws.specs.All.{all}
-use Rattle.laws.proofs.All.{holds}
-use Rattle.laws.proofs.Rules.{ask, yes, no}
+use Rattle.basics.specs.All.{all}
+use Rattle.basics.proofs.All.{holds}
+use Rattle.basics.proofs.Rules.{ask, yes, no}
 use Rattle.units.specs.declared.Times.{Times}
 use Rattle.units.specs.Units.{times, timesFit}
 use Rattle.sheet.specs.declared.Reading.the-variants.{Holds, BadLayout, BadStraps, BadTimes}
-use Rattle.sheet.specs.Sheet.{laid, twoAt, fieldAt, ofLayout, strapsIn, timesIn, readOf, written, writeOf}
+use Rattle.basics.specs.Bytes.{twoAt}
+use Rattle.sheet.specs.Sheet.{laid, fieldAt, ofLayout, strapsIn, timesIn, readOf, sheetWritten, writeOf}
 use Rattle.sheet.proofs.Places.{thirteen, head, spelled, halves, halved}
 
 -- document 01's example
@@ -46,23 +47,23 @@ module _ (s : List ℕ) where
 
 -- 3 before 4 before 6
 module _ (buffer : List ℕ) (straps program slice pause : ℕ) where
-  pub write-3 : 15 < straps → writeOf buffer straps program slice pause ≡ written 3 buffer
+  pub write-3 : 15 < straps → writeOf buffer straps program slice pause ≡ sheetWritten 3 buffer
   unfolding writeOf
   write-3 h = rw (lt-ltb 15 straps h)
 
   module _ (h : straps ≤ 15) where
     pub write-4 : timesFit (times program slice pause) ≡ false
-        → writeOf buffer straps program slice pause ≡ written 4 buffer
+        → writeOf buffer straps program slice pause ≡ sheetWritten 4 buffer
     unfolding writeOf
     write-4 f = rw (le-ltb 15 straps h, f)
 
     module _ (f : timesFit (times program slice pause) ≡ true) where
-      pub write-6 : length buffer < 13 → writeOf buffer straps program slice pause ≡ written 6 buffer
+      pub write-6 : length buffer < 13 → writeOf buffer straps program slice pause ≡ sheetWritten 6 buffer
       unfolding writeOf
       write-6 l = rw (le-ltb 15 straps h, f, lt-ltb (length buffer) 13 l)
 
       pub write-0 : 13 ≤ length buffer
-          → writeOf buffer straps program slice pause ≡ written 0 (laid straps program slice pause ++ drop 13 buffer)
+          → writeOf buffer straps program slice pause ≡ sheetWritten 0 (laid straps program slice pause ++ drop 13 buffer)
       unfolding writeOf
       write-0 l = rw (le-ltb 15 straps h, f, le-ltb (length buffer) 13 l)
 
@@ -154,7 +155,7 @@ module _ (s : List ℕ) (bytes : (i : ℕ) → getD s i 0 < 256) (straps : ℕ) 
 
   pub write-read : (buffer : List ℕ)
       → 13 ≤ length buffer
-      → writeOf buffer straps (t .program .0) (t .slice .0) (t .pause .0) ≡ written 0 (s ++ drop 13 buffer)
+      → writeOf buffer straps (t .program .0) (t .slice .0) (t .pause .0) ≡ sheetWritten 0 (s ++ drop 13 buffer)
   write-read buffer room =
       let g = held s straps t e in
       let most : straps ≤ 15 = rw (g .straps-in) at (g .most) in

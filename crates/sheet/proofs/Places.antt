@@ -7,9 +7,10 @@ use native.Mathlib.Omega.{arith}
 use borrow.Author.Tests.{eqb-true}
 use lib.ListN.{length, getD, drop, drop-of-length-le}
 use lib.Seq.{drop-cons}
-use Rattle.laws.proofs.All.{holds}
-use Rattle.laws.proofs.Table.{from}
-use Rattle.sheet.specs.Sheet.{twoAt, fieldAt, ofLayout}
+use Rattle.basics.proofs.All.{holds}
+use Rattle.basics.proofs.Table.{from}
+use Rattle.basics.specs.Bytes.{twoAt}
+use Rattle.sheet.specs.Sheet.{fieldAt, ofLayout}
 
 pub thirteen : (s : List ℕ) → ofLayout s ≡ true → length s ≡ 13
 unfolding ofLayout

@@ -5,7 +5,8 @@ use mathlib.Core.Bool.{Bool, cond}
 use mathlib.Core.List.{List, [], _∷_, _++_}
 use lib.Dec.{eqb, ltb}
 use lib.ListN.{length, getD, drop}
-use Rattle.laws.specs.All.{all}
+use Rattle.basics.specs.All.{all}
+use Rattle.basics.specs.Bytes.{twoAt}
 use Rattle.units.specs.declared.Times.{Times}
 use Rattle.units.specs.Units.{times, timesFit}
 use Rattle.sheet.specs.declared.Reading.{Reading}
@@ -23,10 +24,6 @@ field tag value = (tag ∷ two (length value)) ++ value
 -- tag 01h with the straps, then tag 02h with program, slice and pause: thirteen bytes
 unfoldable pub laid : ℕ → ℕ → ℕ → ℕ → List ℕ
 laid straps program slice pause = field 1 (straps ∷ []) ++ field 2 (two program ++ two slice ++ two pause)
-
--- the number in the two bytes from a place on
-abbrev pub twoAt : List ℕ → ℕ → ℕ
-twoAt s at = getD s at 0 + 256 * getD s (at + 1) 0
 
 -- a field of this tag and length starts at a place
 unfoldable pub fieldAt : List ℕ → ℕ → ℕ → ℕ → Bool
@@ -62,18 +59,18 @@ numbersOf BadStraps = sheet 3 0 0 0 0
 numbersOf BadTimes = sheet 4 0 0 0 0
 
 -- a number, and the buffer as it is left
-pub record Written : Type 0 where
+pub record SheetWritten : Type 0 where
   pub number : ℕ
   pub buffer : List ℕ
 
-abbrev pub written : ℕ → List ℕ → Written
-written number buffer = record { number = number; buffer = buffer }
+abbrev pub sheetWritten : ℕ → List ℕ → SheetWritten
+sheetWritten number buffer = record { number = number; buffer = buffer }
 
 -- 3 for straps above 15, 4 for a time outside its range, 6 for a buffer shorter than 13 bytes, each with the buffer as it
 -- was; else the sheet in front, and the bytes past it as they were
-unfoldable pub writeOf : List ℕ → ℕ → ℕ → ℕ → ℕ → Written
+unfoldable pub writeOf : List ℕ → ℕ → ℕ → ℕ → ℕ → SheetWritten
 writeOf buffer straps program slice pause =
-    cond (ltb 15 straps) (written 3 buffer)
+    cond (ltb 15 straps) (sheetWritten 3 buffer)
     (cond (timesFit (times program slice pause))
-    (cond (ltb (length buffer) 13) (written 6 buffer) (written 0 (laid straps program slice pause ++ drop 13 buffer)))
-    (written 4 buffer))
+    (cond (ltb (length buffer) 13) (sheetWritten 6 buffer) (sheetWritten 0 (laid straps program slice pause ++ drop 13 buffer)))
+    (sheetWritten 4 buffer))

@@ -1,4 +1,5 @@
 // The bay sheet: the straps and the three times of a bay in thirteen bytes, read and written.
+use basics::two_at;
 use units::Micros;
 use units::Times;
 use units::are_times;
@@ -8,7 +9,8 @@ ghost use mathlib.Core.Path.{_≡_};
 ghost use mathlib.Core.List.{_++_};
 ghost use Prim.Native.Nat.{_+_, _*_, _/_, _%_, _<_, _≤_};
 ghost use lib.ListN.{length, drop};
-ghost use Rattle.sheet.specs.Sheet.{laid, twoAt, fieldAt, ofLayout, timesIn, readOf, numbersOf, written, writeOf};
+ghost use Rattle.basics.specs.Bytes.{twoAt};
+ghost use Rattle.sheet.specs.Sheet.{laid, fieldAt, ofLayout, timesIn, readOf, numbersOf, sheetWritten, writeOf};
 
 // What some bytes are as a sheet.
 pub enum Reading {
@@ -26,19 +28,6 @@ pub struct Sheet {
     pub program: u32,
     pub slice: u32,
     pub pause: u32,
-}
-
-fn join(lower: u8, higher: u8) -> u16
-    ensures { λ r. ⌜ r ≡ lower + 256 * higher ⌝ }
-{
-    (lower as u16) + 256 * (higher as u16)
-}
-
-fn two_at(s: &[u8], at: usize) -> u16
-    requires { ⌜ at + 1 < length (now s) ⌝ }
-    ensures { λ r. ⌜ r ≡ twoAt (now (s .entry)) at ⌝ }
-{
-    join(s[at], s[at + 1])
 }
 
 fn field_at(s: &[u8], at: usize, tag: u8, size: u16) -> bool
@@ -175,7 +164,7 @@ fn put(buffer: &mut [u8], bytes: [u8; 13])
 }
 
 pub fn write(buffer: &mut [u8], straps: u32, program: u32, slice: u32, pause: u32) -> u32
-    ensures { λ r. ⌜ written r (now (buffer .exit)) ≡ writeOf (now (buffer .entry)) straps program slice pause ⌝ }
+    ensures { λ r. ⌜ sheetWritten r (now (buffer .exit)) ≡ writeOf (now (buffer .entry)) straps program slice pause ⌝ }
 {
     if 15 < straps {
         return 3;

@@ -7,14 +7,14 @@ use native.Mathlib.Omega.{arith}
 use lib.Dec.{eqb, ltb}
 use lib.ListN.{length, drop}
 use borrow.Author.Tests.{ne-eqb, eqb-true, ltb-false}
-use Rattle.laws.proofs.Rules.{clash}
+use Rattle.basics.proofs.Rules.{clash}
 use Rattle.units.specs.Units.{times, timesFit}
 use Rattle.record.specs.declared.Device.{Device}
-use Rattle.device.specs.Status.{statusOf}
+use Rattle.status.specs.Status.{statusOf}
 use Rattle.clock.specs.Fold.{world, through, answersTo}
-use Rattle.glance.specs.Samples.{samples}
-use Rattle.stream.specs.Run.{misshapen, runNumber, powered, report, ran, ranOf}
-use Rattle.glance.proofs.Turns.{samples-length}
+use Rattle.record.specs.Sample.{samples}
+use Rattle.stream.specs.Run.{misshapen, runNumber, freshWorld, report, ran, ranOf}
+use Rattle.record.proofs.Samples.{samples-length}
 
 pub record Accepted (image stream answers : List ℕ) (straps program slice pause : ℕ) : Type 0 where
   pub whole : length image ≡ 1048576
@@ -57,8 +57,8 @@ module _ (image stream answers : List ℕ) (straps program slice pause : ℕ) {n
 
     pub finishes : {last : Device} {late given : List ℕ}
         → number ≡ 0
-        → world last late ≡ through (samples stream) (powered image straps program slice pause)
-        → given ≡ answersTo (samples stream) (powered image straps program slice pause) ++ drop (length (samples stream)) answers
+        → world last late ≡ through (samples stream) (freshWorld image straps program slice pause)
+        → given ≡ answersTo (samples stream) (freshWorld image straps program slice pause) ++ drop (length (samples stream)) answers
         → ran (report number (length stream / 2) (statusOf (last .controller)) (last .controller .marks)) late given
         ≡ ranOf image stream answers straps program slice pause
     unfolding ranOf

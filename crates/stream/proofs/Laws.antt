@@ -9,14 +9,14 @@ use lib.Dec.{eqb}
 use lib.ListN.{length, drop}
 use lib.Seq.{drop-at}
 use borrow.Author.Tests.{eq-eqb, le-ltb}
-use Rattle.laws.proofs.Rules.{ask, yes, no}
+use Rattle.basics.proofs.Rules.{ask, yes, no}
 use Rattle.units.specs.Units.{times, timesFit}
 use Rattle.part.specs.Fresh.{freshOf}
-use Rattle.device.specs.Status.{conditionOf, statusOf}
+use Rattle.status.specs.Status.{conditionOf, statusOf}
 use Rattle.clock.specs.Fold.{World, onward, answersTo}
-use Rattle.glance.specs.Samples.{samples}
-use Rattle.stream.specs.Run.{misshapen, runNumber, powered, report, ran, reported, ranOf}
-use Rattle.glance.proofs.Turns.{samples-length}
+use Rattle.record.specs.Sample.{samples}
+use Rattle.stream.specs.Run.{misshapen, runNumber, freshWorld, report, ran, reported, ranOf}
+use Rattle.record.proofs.Samples.{samples-length}
 use Rattle.stream.proofs.Doors.{refuses}
 
 -- an answer byte to each sample
@@ -32,7 +32,7 @@ module _ (image stream answers : List ℕ) (straps program slice pause : ℕ) wh
 
   module _ (n : runNumber image stream answers straps program slice pause ≡ 0) where
     pub done : ranOf image stream answers straps program slice pause
-        ≡ reported (samples stream) (powered image straps program slice pause) answers
+        ≡ reported (samples stream) (freshWorld image straps program slice pause) answers
     unfolding ranOf
     done = rw n
 
@@ -48,10 +48,10 @@ module _ (image stream answers : List ℕ) (straps program slice pause : ℕ) wh
         | yes e ↦
             rw (e, samples-length stream)
             (drop-at
-            (answersTo (samples stream) (powered image straps program slice pause))
+            (answersTo (samples stream) (freshWorld image straps program slice pause))
             (drop (length stream / 2) answers)
             (length stream / 2)
-            (answers-length (samples stream) (powered image straps program slice pause) ∙ samples-length stream))
+            (answers-length (samples stream) (freshWorld image straps program slice pause) ∙ samples-length stream))
         | no e ↦ rw e
       ]
 

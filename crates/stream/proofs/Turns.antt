@@ -5,10 +5,9 @@ use mathlib.Core.List.{List}
 use Prim.Native.Nat.{ℕ, _+_, _*_, _<_}
 use lib.Dec.{eqb}
 use lib.ListN.{length, drop}
-use Rattle.laws.proofs.Rules.{ask, yes, no}
-use Rattle.record.specs.Sample.{voltage}
-use Rattle.glance.specs.Samples.{samples, sampleAt}
-use Rattle.glance.proofs.Turns.{samples-cons}
+use Rattle.basics.proofs.Rules.{ask, yes, no}
+use Rattle.record.specs.Sample.{voltage, samples, sampleAt}
+use Rattle.record.proofs.Samples.{samples-cons}
 use Rattle.stream.specs.Run.{overvolted}
 
 pub over-turn : (s : List ℕ) (k : ℕ) (over : Bool) → 2 * k + 1 < length s

@@ -5,11 +5,10 @@ use mathlib.Core.List.{List, [], _∷_, _++_}
 use lib.Dec.{eqb, ltb}
 use lib.ListN.{length, drop}
 use Rattle.units.specs.Units.{times, timesFit}
-use Rattle.record.specs.Sample.{voltage}
+use Rattle.record.specs.Sample.{voltage, samples}
 use Rattle.part.specs.Fresh.{freshOf}
-use Rattle.device.specs.Status.{statusOf}
+use Rattle.status.specs.Status.{statusOf}
 use Rattle.clock.specs.Fold.{World, world, through, answersTo}
-use Rattle.glance.specs.Samples.{samples}
 use Rattle.stream.specs.declared.Report.{Report}
 
 -- some sample has voltage class 3
@@ -34,8 +33,8 @@ runNumber image stream answers straps program slice pause =
     2
 
 -- the device fresh, with the image as it is lent
-abbrev pub powered : List ℕ → ℕ → ℕ → ℕ → ℕ → World
-powered image straps program slice pause = world (freshOf straps (times program slice pause)) image
+abbrev pub freshWorld : List ℕ → ℕ → ℕ → ℕ → ℕ → World
+freshWorld image straps program slice pause = world (freshOf straps (times program slice pause)) image
 
 -- what a run gives: samples done, the status register and the marks; the image; the answers, with the bytes past the
 -- last sample unchanged
@@ -61,5 +60,5 @@ reported ss w answers =
 unfoldable pub ranOf : List ℕ → List ℕ → List ℕ → ℕ → ℕ → ℕ → ℕ → Ran
 ranOf image stream answers straps program slice pause =
     cond (eqb (runNumber image stream answers straps program slice pause) 0)
-    (reported (samples stream) (powered image straps program slice pause) answers)
+    (reported (samples stream) (freshWorld image straps program slice pause) answers)
     (ran (report (runNumber image stream answers straps program slice pause) 0 0 0) image answers)

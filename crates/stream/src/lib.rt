@@ -1,14 +1,15 @@
 // Run: from power-up through a stream of samples.
-use device::status;
-use glance::sample_at;
+use basics::either;
+use fast_run::run_samples;
 use part::Part;
 use record::Device;
+use record::sample_at;
+use record::voltage;
+use status::status;
 use units::are_times;
 use units::times_of;
-use walk::walk;
 ghost use mathlib.Core.Path.{_≡_};
-ghost use mathlib.Core.Bool.{_||_};
-ghost use Rattle.glance.specs.Samples.{samples};
+ghost use Rattle.record.specs.Sample.{samples};
 ghost use Rattle.stream.specs.Run.{overvolted, runNumber, ran, ranOf};
 
 // The numbered answer of a run, samples done, the status register and the spoiled marks.
@@ -20,15 +21,6 @@ pub struct Report {
     pub marks: u32,
 }
 
-fn either(a: bool, b: bool) -> bool
-    ensures { λ r. ⌜ r ≡ (a || b) ⌝ }
-{
-    if a {
-        return true;
-    }
-    b
-}
-
 // Whether some sample has voltage class 3. It does not stop at the first, so that a stream without one, as most are, goes
 // several samples at a time.
 fn is_overvolted(stream: &[u8]) -> bool
@@ -38,7 +30,7 @@ fn is_overvolted(stream: &[u8]) -> bool
     let mut over = false;
     let mut k: usize = 0;
     while k < count {
-        over = either(over, sample_at(stream, k) / 512 % 4 == 3);
+        over = either(over, voltage(sample_at(stream, k)) == 3);
         k += 1;
     }
     over
@@ -96,7 +88,7 @@ pub fn run(
     let number = run_number(image, stream, answers, straps, program, slice, pause);
     if number == 0 {
         let fresh = Part::fresh(straps as u8, times_of(program, slice, pause));
-        let last = walk(fresh, image, stream, answers);
+        let last = run_samples(fresh, image, stream, answers);
         let c = last.controller;
         return Report {
             number,

@@ -3,9 +3,9 @@ use mathlib.Core.Path.{_≡_}
 use mathlib.Core.Bool.{true}
 use Prim.Native.Nat.{ℕ, _≤_}
 use borrow.Author.Tests.{leb-true}
-use Rattle.laws.proofs.All.{holds}
+use Rattle.basics.proofs.All.{holds}
 use Rattle.units.specs.declared.Times.{Times}
-use Rattle.units.specs.Units.{within, timesFit}
+use Rattle.units.specs.Units.{inRange, timesFit}
 
 pub record Ranges (t : Times) : Type 0 where
   pub program-least : 1 ≤ t .program .0
@@ -15,13 +15,13 @@ pub record Ranges (t : Times) : Type 0 where
   pub pause-least : 1 ≤ t .pause .0
   pub pause-most : t .pause .0 ≤ 30
 
-module _ (n most : ℕ) (e : within n most ≡ true) where
+module _ (n most : ℕ) (e : inRange n most ≡ true) where
   least : 1 ≤ n
-  unfolding within
+  unfolding inRange
   least = leb-true _ _ (holds _ 0 e)
 
   upmost : n ≤ most
-  unfolding within
+  unfolding inRange
   upmost = leb-true _ _ (holds _ 1 e)
 
 pub ranges : (t : Times) → timesFit t ≡ true → Ranges t

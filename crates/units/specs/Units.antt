@@ -4,7 +4,7 @@ use Prim.Native.Nat.{ℕ, _*_}
 use mathlib.Core.Bool.{Bool}
 use mathlib.Core.List.{[], _∷_}
 use lib.Dec.{leb}
-use Rattle.laws.specs.All.{all}
+use Rattle.basics.specs.All.{all}
 use Rattle.units.specs.declared.Micros.{Micros}
 use Rattle.units.specs.declared.Clocks.{Clocks}
 use Rattle.units.specs.declared.Times.{Times}
@@ -14,12 +14,12 @@ unfoldable pub inClocks : Micros → Clocks
 inClocks m = record { 0 = m .0 * 33 }
 
 -- a time is at least 1 and at most `most`
-unfoldable pub within : ℕ → ℕ → Bool
-within n most = all (leb 1 n ∷ leb n most ∷ [])
+unfoldable pub inRange : ℕ → ℕ → Bool
+inRange n most = all (leb 1 n ∷ leb n most ∷ [])
 
 -- program 1 to 200, erase slice 1 to 39,062, pause 1 to 30
 unfoldable pub timesFit : Times → Bool
-timesFit t = all (within (t .program .0) 200 ∷ within (t .slice .0) 39062 ∷ within (t .pause .0) 30 ∷ [])
+timesFit t = all (inRange (t .program .0) 200 ∷ inRange (t .slice .0) 39062 ∷ inRange (t .pause .0) 30 ∷ [])
 
 abbrev pub micros : ℕ → Micros
 micros n = record { 0 = n }

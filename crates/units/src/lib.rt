@@ -1,7 +1,7 @@
 // Microseconds and clocks: two types, one conversion between them, and the ranges of the three times.
 ghost use mathlib.Core.Path.{_≡_};
 ghost use mathlib.Core.Bool.{true};
-ghost use Rattle.units.specs.Units.{times, inClocks, within, timesFit};
+ghost use Rattle.units.specs.Units.{times, inClocks, inRange, timesFit};
 
 // Sixteen bits hold the longest time, 39,062, and the clocks of any sixteen bits fit in thirty-two.
 #[repr(C)]
@@ -25,8 +25,8 @@ pub fn in_clocks(m: Micros) -> Clocks
     Clocks((m.0 as u32) * 33)
 }
 
-fn is_within(n: u32, most: u32) -> bool
-    ensures { λ r. ⌜ r ≡ within n most ⌝ }
+fn is_in_range(n: u32, most: u32) -> bool
+    ensures { λ r. ⌜ r ≡ inRange n most ⌝ }
 {
     1 <= n && n <= most
 }
@@ -35,9 +35,9 @@ fn is_within(n: u32, most: u32) -> bool
 pub fn are_times(program: u32, slice: u32, pause: u32) -> bool
     ensures { λ r. ⌜ r ≡ timesFit (times program slice pause) ⌝ }
 {
-    if is_within(program, 200) {
-        if is_within(slice, 39062) {
-            return is_within(pause, 30);
+    if is_in_range(program, 200) {
+        if is_in_range(slice, 39062) {
+            return is_in_range(pause, 30);
         }
         return false;
     }

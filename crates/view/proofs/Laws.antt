@@ -9,16 +9,16 @@ use borrow.Author.Tests.{eqb-true}
 use lib.Dec.{eqb}
 use lib.ListN.{length, getD, take, drop, length-drop}
 use lib.Seq.{length-take-le, take-all}
-use Rattle.laws.proofs.Rules.{and-left, and-right, ask, yes, no}
+use Rattle.basics.proofs.Rules.{and-left, and-right, ask, yes, no}
 use Rattle.record.specs.declared.Device.{Device}
-use Rattle.view.specs.Shown.{allZero, canShow, readLocked, shown, part, partShown, contents}
+use Rattle.view.specs.Shown.{allZero, canShow, readLocked, shown, piece, pieceShown, bytesNamed}
 use Rattle.view.proofs.Ready.{ready}
 
--- the part that the numbers name has the contents shown
+-- the part that the numbers name has the bytes shown
 named-by : (a b : Bool) (image page : List ℕ) (start size : ℕ)
-    → contents (cond a (cond b (part 2 0 size) (part 1 start size)) (part 0 0 0)) image page
+    → bytesNamed (cond a (cond b (piece 2 0 size) (piece 1 start size)) (piece 0 0 0)) image page
     ≡ cond a (cond b (take size page) (take size (drop start image))) []
-unfolding contents
+unfolding bytesNamed
 named-by true true image page start size = refl
 named-by true false image page start size = refl
 named-by false b image page start size = refl
@@ -29,8 +29,8 @@ zero-at (x ∷ xs) zero e = eqb-true x 0 (and-left (eqb x 0) (allZero xs) e)
 zero-at (x ∷ xs) (suc i) e = zero-at xs i (and-right (eqb x 0) (allZero xs) e)
 
 module _ (d : Device) (image page : List ℕ) (block : ℕ) where
-  pub named : contents (partShown d image page block) image page ≡ shown d image page block
-  unfolding partShown shown
+  pub named : bytesNamed (pieceShown d image page block) image page ≡ shown d image page block
+  unfolding pieceShown shown
   named = named-by (canShow d image page block) (readLocked d block) image page (block * 65536) 65536
 
   -- nothing is shown where nothing can be

@@ -5,9 +5,9 @@ use mathlib.Core.List.{List}
 use Prim.Native.Nat.{ℕ, _<_}
 use borrow.Author.Tests.{eqb-true, ltb-true}
 use lib.ListN.{length}
-use Rattle.laws.proofs.All.{holds}
+use Rattle.basics.proofs.All.{holds}
 use Rattle.record.specs.declared.Device.{Device}
-use Rattle.device.specs.Sound.{soundOf}
+use Rattle.soundness.specs.Sound.{soundOf}
 use Rattle.view.specs.Shown.{allZero, isZeros, canShow}
 
 pub record Ready (d : Device) (image page : List ℕ) (block : ℕ) : Type 0 where

@@ -6,10 +6,10 @@ use mathlib.Core.List.{List, [], _∷_}
 use lib.Bits.{bitAnd}
 use lib.Dec.{eqb, ltb}
 use lib.ListN.{length, getD, take, drop}
-use Rattle.laws.specs.All.{all}
+use Rattle.basics.specs.All.{all}
 use Rattle.record.specs.declared.Device.{Device}
-use Rattle.device.specs.Sound.{soundOf}
-use Rattle.view.specs.declared.Part.{Part}
+use Rattle.soundness.specs.Sound.{soundOf}
+use Rattle.view.specs.declared.Piece.{Piece}
 
 abbrev pub allZero : List ℕ → Bool
 allZero [] = true
@@ -34,15 +34,15 @@ shown d image page block =
     (cond (readLocked d block) (take 65536 page) (take 65536 (drop (block * 65536) image)))
     []
 
-abbrev pub part : ℕ → ℕ → ℕ → Part
-part from start length = record { from = from; start = start; length = length }
+abbrev pub piece : ℕ → ℕ → ℕ → Piece
+piece from start length = record { from = from; start = start; length = length }
 
 -- the same as numbers: 0 the page's empty front, 1 the image, 2 the page
-unfoldable pub partShown : Device → List ℕ → List ℕ → ℕ → Part
-partShown d image page block =
-    cond (canShow d image page block) (cond (readLocked d block) (part 2 0 65536) (part 1 (block * 65536) 65536))
-    (part 0 0 0)
+unfoldable pub pieceShown : Device → List ℕ → List ℕ → ℕ → Piece
+pieceShown d image page block =
+    cond (canShow d image page block) (cond (readLocked d block) (piece 2 0 65536) (piece 1 (block * 65536) 65536))
+    (piece 0 0 0)
 
 -- the bytes that the numbers name
-unfoldable pub contents : Part → List ℕ → List ℕ → List ℕ
-contents p image page = take (p .length) (drop (p .start) (cond (eqb (p .from) 1) image page))
+unfoldable pub bytesNamed : Piece → List ℕ → List ℕ → List ℕ
+bytesNamed p image page = take (p .length) (drop (p .start) (cond (eqb (p .from) 1) image page))

@@ -1,13 +1,14 @@
 // The block view: what a reader sees of one block, the block itself or a page of zeros that the caller lends.
-use device::sound;
+use part::Part;
 use record::Device;
+use soundness::sound;
 ghost use mathlib.Core.Path.{_≡_};
 ghost use Prim.Native.Nat.{_<_};
-ghost use Rattle.view.specs.Shown.{allZero, isZeros, canShow, readLocked, shown, partShown};
+ghost use Rattle.view.specs.Shown.{allZero, isZeros, canShow, readLocked, shown, pieceShown};
 
 // Which lent slice is shown (0 the page's empty front, 1 the image, 2 the page), from where, and how much of it.
 #[repr(C)]
-pub struct Part {
+pub struct Piece {
     pub from: u32,
     pub start: u32,
     pub length: u32,
@@ -39,8 +40,8 @@ fn can_show(device: Device, image: &[u8], page: &[u8], block: u32) -> bool
     ensures { λ r. ⌜ r ≡ canShow device (now (image .entry)) (now (page .entry)) block ⌝ }
 {
     if sound(device) {
-        if image.len() == part::Part::BYTES {
-            if block < part::Part::BLOCKS {
+        if image.len() == Part::BYTES {
+            if block < Part::BLOCKS {
                 return is_zeros(page);
             }
             return false;
@@ -74,24 +75,24 @@ pub fn view<'a>(device: Device, image: &'a [u8], page: &'a [u8], block: u32) -> 
 }
 
 // The same choice as numbers.
-pub fn part_shown(device: Device, image: &[u8], page: &[u8], block: u32) -> Part
-    ensures { λ r. ⌜ r ≡ partShown device (now (image .entry)) (now (page .entry)) block ⌝ }
+pub fn piece_shown(device: Device, image: &[u8], page: &[u8], block: u32) -> Piece
+    ensures { λ r. ⌜ r ≡ pieceShown device (now (image .entry)) (now (page .entry)) block ⌝ }
 {
     if can_show(device, image, page, block) {
         if read_locked(device, block) {
-            return Part {
+            return Piece {
                 from: 2,
                 start: 0,
                 length: 65536,
             };
         }
-        return Part {
+        return Piece {
             from: 1,
             start: block * 65536,
             length: 65536,
         };
     }
-    Part {
+    Piece {
         from: 0,
         start: 0,
         length: 0,

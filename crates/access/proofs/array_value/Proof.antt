@@ -1,5 +1,5 @@
 use borrow.Author.Needs.{needs}
-use Rattle.laws.proofs.Rules.{cases}
+use Rattle.basics.proofs.Rules.{cases}
 use Rattle.access.specs.Read.{arrayValue}
 use Rattle.access.proofs.array_value.Statement.{statement}
 use Rattle.access.proofs.array_value.Tie as tie

@@ -8,6 +8,7 @@ unfolding lockOf
 lock-of-spec =
     tie.close
     (tie.spec
+    (λ c κs. search needs)
     (λ c. search needs)
     (λ c. search needs)
-    (λ c. search needs))
+    (λ c. rw (c .block-of .ensures)))

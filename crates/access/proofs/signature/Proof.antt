@@ -1,4 +1,4 @@
-use Rattle.laws.proofs.Rules.{cases}
+use Rattle.basics.proofs.Rules.{cases}
 use Rattle.access.specs.Read.{signatureOf}
 use Rattle.access.proofs.signature.Statement.{statement}
 use Rattle.access.proofs.signature.Tie as tie

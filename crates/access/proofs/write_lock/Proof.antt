@@ -1,5 +1,5 @@
 use borrow.Author.Needs.{needs}
-use Rattle.laws.proofs.Rules.{cases}
+use Rattle.basics.proofs.Rules.{cases}
 use Rattle.access.specs.Write.{lockWritten}
 use mathlib.Core.Path.{_∙_, sym}
 use Rattle.part.proofs.Rule.{lock-below}

@@ -1,4 +1,4 @@
-use Rattle.laws.proofs.Rules.{cases}
+use Rattle.basics.proofs.Rules.{cases}
 use Rattle.bus.specs.Frames.{askedOf}
 use Rattle.bus.proofs.ask.Statement.{statement}
 use Rattle.bus.proofs.ask.Tie as tie

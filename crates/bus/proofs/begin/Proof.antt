@@ -1,5 +1,5 @@
 use borrow.Author.Needs.{needs}
-use Rattle.laws.proofs.Rules.{cases}
+use Rattle.basics.proofs.Rules.{cases}
 use Rattle.bus.specs.Frames.{begun}
 use Rattle.bus.proofs.begin.Statement.{statement}
 use Rattle.bus.proofs.begin.Tie as tie
@@ -14,4 +14,4 @@ begin-spec =
     (λ c κs. search needs)
     (λ c. search (cases, c .frame2 .ensures))
     (λ c κs. search needs)
-    (λ c. search (cases, c .frame3 .ensures)))
+    (λ c. search (cases, c .idle-frame .ensures)))

@@ -1,5 +1,5 @@
 use borrow.Author.Needs.{needs}
-use Rattle.laws.proofs.Rules.{cases}
+use Rattle.basics.proofs.Rules.{cases}
 use Rattle.bus.specs.Frames.{drivenOf}
 use Rattle.bus.proofs.drive.Statement.{statement}
 use Rattle.bus.proofs.drive.Tie as tie

@@ -1,5 +1,5 @@
 use borrow.Author.Needs.{needs}
-use Rattle.laws.proofs.Rules.{cases}
+use Rattle.basics.proofs.Rules.{cases}
 use Rattle.bus.specs.Frames.{readOn}
 use Rattle.bus.proofs.read_on.Statement.{statement}
 use Rattle.bus.proofs.read_on.Tie as tie
@@ -13,4 +13,4 @@ read-on-spec =
     (λ c κs. search needs)
     (λ c. search (cases, c .frame .ensures))
     (λ c κs. search needs)
-    (λ c. search (cases, c .frame2 .ensures)))
+    (λ c. search (cases, c .idle-frame .ensures)))

@@ -1,5 +1,5 @@
 use borrow.Author.Needs.{needs}
-use Rattle.laws.proofs.Rules.{cases}
+use Rattle.basics.proofs.Rules.{cases}
 use Rattle.bus.specs.Frames.{writeOn}
 use Rattle.bus.proofs.write_on.Statement.{statement}
 use Rattle.bus.proofs.write_on.Tie as tie
@@ -19,4 +19,4 @@ write-on-spec =
     (λ c κs. search needs)
     (λ c. search (cases, c .frame3 .ensures))
     (λ c κs. search needs)
-    (λ c. search (cases, c .frame4 .ensures)))
+    (λ c. search (cases, c .idle-frame .ensures)))

@@ -9,4 +9,5 @@ reset-device-spec =
     tie.close
     (tie.spec
     (λ c κs. search needs)
-    (λ c. rw (c .before .reset .ensures)))
+    (λ c κs. search needs)
+    (λ c. rw (c .idle-frame .ensures, c .before .before .reset .ensures)))

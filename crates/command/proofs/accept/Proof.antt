@@ -1,5 +1,5 @@
 use borrow.Author.Needs.{needs}
-use Rattle.laws.proofs.Rules.{cases}
+use Rattle.basics.proofs.Rules.{cases}
 use Rattle.command.specs.Setup.{acceptedOf}
 use Rattle.command.proofs.accept.Statement.{statement}
 use Rattle.command.proofs.accept.Tie as tie

@@ -1,5 +1,5 @@
 use borrow.Author.Needs.{needs}
-use Rattle.laws.proofs.Rules.{cases}
+use Rattle.basics.proofs.Rules.{cases}
 use Rattle.command.specs.Commands.{columnOf}
 use Rattle.command.proofs.column.Statement.{statement}
 use Rattle.command.proofs.column.Tie as tie

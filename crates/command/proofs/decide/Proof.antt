@@ -1,7 +1,7 @@
 use borrow.Author.Needs.{needs}
 use Rattle.command.specs.Commands.{actionAt, actionOf}
 use mathlib.Core.Path.{_∙_, ap}
-use Rattle.laws.proofs.Table.{at2}
+use Rattle.basics.proofs.Table.{at2}
 use Rattle.command.proofs.decide.Statement.{statement}
 use Rattle.command.proofs.decide.Tie as tie
 

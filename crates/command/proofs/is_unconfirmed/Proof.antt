@@ -1,4 +1,4 @@
-use Rattle.laws.proofs.Rules.{cases}
+use Rattle.basics.proofs.Rules.{cases}
 use Rattle.command.specs.Setup.{unconfirmed}
 use Rattle.command.proofs.is_unconfirmed.Statement.{statement}
 use Rattle.command.proofs.is_unconfirmed.Tie as tie

@@ -1,4 +1,4 @@
-use Rattle.laws.proofs.Rules.{cases}
+use Rattle.basics.proofs.Rules.{cases}
 use Rattle.command.specs.Setup.{starting}
 use Rattle.command.proofs.start.Statement.{statement}
 use Rattle.command.proofs.start.Tie as tie

@@ -1,5 +1,5 @@
 use borrow.Author.Needs.{needs}
-use Rattle.laws.proofs.Rules.{cases}
+use Rattle.basics.proofs.Rules.{cases}
 use Rattle.command.specs.Setup.{writtenOf}
 use borrow.Author.Tests.{ne-eqb}
 use Rattle.command.proofs.write.Statement.{statement}

@@ -43,21 +43,21 @@ use denote.Triple.Clauses.{ensured, lasts}
 use denote.Triple.Table.{entered, cited}
 use denote.Triple.Walked.{says, Stays, stay-ref, gave-slice, stay-none, walkOf, AllGo, goes-ref, goes-gave-slice, goes-none, Walks, ends-at, walked, walk-meets}
 use denote.Exit.{yes}
-use Rattle.clock.specs.Step.{steppedOf, storedOf}
+use Rattle.step.specs.Step.{steppedOf, storedOf}
 use Rattle.inplace.specs.Clocked.{clockedOf}
 use Rattle.record.specs.declared.Device.{Device}
-use Rattle.clock.specs.declared.Stepped.{Stepped}
+use Rattle.step.specs.declared.Stepped.{Stepped}
 use Rattle.inplace.specs.declared.Clocked.{Clocked}
 use Rattle.record.proofs.Device as T
 use Rattle.inplace.proofs.Machine.{mach, DevTy, IsDevice, Seen, Lent, device-typed, owns-device, opens-device, closes-device}
-use Rattle.clock.proofs.Stepped as S
-use Rattle.clock.proofs.Stepped.Laws as S′
+use Rattle.step.proofs.Stepped as S
+use Rattle.step.proofs.Stepped.Laws as S′
 use Rattle.inplace.proofs.Clocked as K
 use Rattle.inplace.proofs.Clocked.Laws as K′
-use Rattle.clock.proofs.step as step
-use Rattle.clock.proofs.step.Symbol as step-def
-use Rattle.clock.proofs.step.Symbol.{name as #clock·step}
-use Rattle.clock.proofs.step.Met as step-thm
+use Rattle.step.proofs.step as step
+use Rattle.step.proofs.step.Symbol as step-def
+use Rattle.step.proofs.step.Symbol.{name as #step·step}
+use Rattle.step.proofs.step.Met as step-thm
 use Rattle.inplace.proofs.pod_clock.Key.{name as #inplace·pod-clock}
 use Rattle.inplace.proofs.pod_clock as f
 use Rattle.inplace.proofs.pod_clock.Statement as stated
@@ -104,7 +104,7 @@ fnAt δ ε = record {
       seq (assign (place 5 []) (rvOpd (copy (place 1 (deref δ ∷ [])))))
       (seq (assign (place 6 []) (addrOf (place 2 (field 0 ∷ deref (tyInt w8) ∷ []))))
       (seq (assign (place 7 []) (aggregate (copy (place 6 []) ∷ copy (place 2 (field 1 ∷ [])) ∷ [])))
-      (seq (call #clock·step (copy (place 5 []) ∷ copy (place 7 []) ∷ copy (place 3 []) ∷ []) (place 4 []))
+      (seq (call #step·step (copy (place 5 []) ∷ copy (place 7 []) ∷ copy (place 3 []) ∷ []) (place 4 []))
       (seq (assign (place 1 (deref δ ∷ [])) (rvOpd (copy (place 4 (field 2 ∷ [])))))
       (seq (assign (place 0 []) (aggregate (copy (place 4 (field 0 ∷ [])) ∷ copy (place 4 (field 1 ∷ [])) ∷ [])))
       return)))));
@@ -220,7 +220,7 @@ module _ {M : Type 1} (𝓤 : URA M) (H : Heap 𝓤) (A : Atoms 𝓤) (W : Given
       move ! (2 ∷ 0 ∷ []) $ fjoin ! $ move ! (1 ∷ 0 ∷ []) $ fjoin ! $
       owned ! K.the-row (Is K.the-row) (LL.makes K.the-type K′.the-plain 𝓤 H A) c _ (is-out c fits) $ move ! (1 ∷ 0 ∷ []) $ done !
 
-  module _ (C : Calls 𝓤 H) (Λ : Loops 𝓤 H) (fm : FmC 𝓤 H (W .laws) C) (known : Triple 𝓤 (C #clock·step) (Step 𝓤 H A at-mem run)) where
+  module _ (C : Calls 𝓤 H) (Λ : Loops 𝓤 H) (fm : FmC 𝓤 H (W .laws) C) (known : Triple 𝓤 (C #step·step) (Step 𝓤 H A at-mem run)) where
     walk : Room u8 (length ys) → ent 𝓤 (onEntry 𝓤 H A f.signature (κ, (κ′, tt)) (q, (q′, tt)) a vals) (WpFn 𝓤 H C Λ fn (vptr b o ∷ s ∷ vint w16 n ∷ []) Post)
     walk room =
         qed W ((‵ (flft κ q) ⊛ ‵ (flft κ′ q′) ⊛ ‵ ftrue) ∷ ‵ (owns (MutRef (named 0) κ T.the-row ∷ MutSlice (named 1) κ′ u8 ∷ u16 ∷ []) a vals) ∷ []) ∵
@@ -275,7 +275,7 @@ module _ {M : Type 1} (𝓤 : URA M) (H : Heap 𝓤) (A : Atoms 𝓤) (W : Given
 -- ---- From the walk to the contract.
 
 module _ {M : Type 1} (𝓤 : URA M) (H : Heap 𝓤) (A : Atoms 𝓤) (W : Given 𝓤 H A) (at-mem : Memory → SProp 𝓤) (run : Routine → Fun 𝓤) where
-  pod-clock-walks : (C : Calls 𝓤 H) (Λ : Loops 𝓤 H) → FmC 𝓤 H (W .laws) C → Triple 𝓤 (C #clock·step) (Step 𝓤 H A at-mem run) → Walks 𝓤 H A f.ended stayed (WpFn 𝓤 H C Λ code.function) (f.clauses 𝓤 H A at-mem run)
+  pod-clock-walks : (C : Calls 𝓤 H) (Λ : Loops 𝓤 H) → FmC 𝓤 H (W .laws) C → Triple 𝓤 (C #step·step) (Step 𝓤 H A at-mem run) → Walks 𝓤 H A f.ended stayed (WpFn 𝓤 H C Λ code.function) (f.clauses 𝓤 H A at-mem run)
   pod-clock-walks C Λ fm known =
       subst (λ (z : Fn). Walks 𝓤 H A f.ended stayed (WpFn 𝓤 H C Λ z) (f.clauses 𝓤 H A at-mem run)) same
       (walked 𝓤 H A f.ended stayed (f.clauses 𝓤 H A at-mem run) (WpFn 𝓤 H C Λ fn) (λ κs. (ptr-vals, (slice-vals, (uint-vals w16, tt))))
@@ -287,7 +287,7 @@ module _ {M : Type 1} (𝓤 : URA M) (H : Heap 𝓤) (A : Atoms 𝓤) (W : Given
   goes : AllGo 𝓤 H A W 2 (f.signature .params) (f.ended .kept) stayed
   goes = (goes-ref 𝓤 H A W 2 0 tt (plain (λ _. T.the-row)), (goes-gave-slice 𝓤 H A W 2 1 tt (plain (λ _. u8)), (goes-none 𝓤 H A W 2 (λ _. u16) yes (λ κs x f. refl), tt)))
 
-pod-clock-meets : {M : Type 1} (𝓤 : URA M) (H : Heap 𝓤) (A : Atoms 𝓤) → Given 𝓤 H A → (at-mem : Memory → SProp 𝓤) (run : Routine → Fun 𝓤) (𝓣 : Tables 𝓤 H) → Triple 𝓤 (𝓣 .C #clock·step) (Step 𝓤 H A at-mem run)
+pod-clock-meets : {M : Type 1} (𝓤 : URA M) (H : Heap 𝓤) (A : Atoms 𝓤) → Given 𝓤 H A → (at-mem : Memory → SProp 𝓤) (run : Routine → Fun 𝓤) (𝓣 : Tables 𝓤 H) → Triple 𝓤 (𝓣 .C #step·step) (Step 𝓤 H A at-mem run)
     → Meets 𝓤 H A f.signature (WpFn 𝓤 H (𝓣 .C) (𝓣 .Λ) code.function) (f.spec 𝓤 H A at-mem run)
 pod-clock-meets 𝓤 H A W at-mem run 𝓣 known =
     walk-meets 𝓤 H A f.ended stayed W (goes 𝓤 H A W at-mem run) (f.clauses 𝓤 H A at-mem run)
@@ -300,4 +300,4 @@ pod-clock-spec 𝓤 H 𝓜 𝓖 𝓡 =
     entered 𝓤 H (tripleOf 𝓤 H (𝓖 .A) f.signature (f.spec 𝓤 H (𝓖 .A) (𝓜 .mem) (𝓡 .run)))
     (tables 𝓤 H 𝓜 𝓡 code.env .C) (tables 𝓤 H 𝓜 𝓡 code.env .Λ) #inplace·pod-clock code.function (code.unfolded 𝓤 H 𝓜 𝓡)
     (pod-clock-meets 𝓤 H (𝓖 .A) (givenOf 𝓤 H 𝓜 𝓖) (𝓜 .mem) (𝓡 .run) (tablesOf 𝓤 H 𝓜 (tables 𝓤 H 𝓜 𝓡 code.env))
-    (cited 𝓤 H (Step 𝓤 H (𝓖 .A) (𝓜 .mem) (𝓡 .run)) 𝓜 𝓡 code.env #clock·step step-def.routine code.calls-clock·step (step-thm.met 𝓤 H 𝓜 𝓖 𝓡)))
+    (cited 𝓤 H (Step 𝓤 H (𝓖 .A) (𝓜 .mem) (𝓡 .run)) 𝓜 𝓡 code.env #step·step step-def.routine code.calls-step·step (step-thm.met 𝓤 H 𝓜 𝓖 𝓡)))

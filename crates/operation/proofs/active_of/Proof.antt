@@ -1,4 +1,4 @@
-use Rattle.laws.proofs.Rules.{cases}
+use Rattle.basics.proofs.Rules.{cases}
 use Rattle.operation.specs.Clock.{active}
 use Rattle.operation.proofs.active_of.Statement.{statement}
 use Rattle.operation.proofs.active_of.Tie as tie

@@ -1,4 +1,4 @@
-use Rattle.laws.proofs.Rules.{cases}
+use Rattle.basics.proofs.Rules.{cases}
 use Rattle.operation.specs.Clock.{isStill}
 use Rattle.operation.proofs.is_still.Statement.{statement}
 use Rattle.operation.proofs.is_still.Tie as tie

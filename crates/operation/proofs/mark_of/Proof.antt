@@ -1,5 +1,5 @@
 use borrow.Author.Needs.{needs}
-use Rattle.laws.proofs.Rules.{cases}
+use Rattle.basics.proofs.Rules.{cases}
 use Rattle.operation.specs.Reset.{markedBy}
 use native.Mathlib.Omega.{arith}
 use borrow.Author.Tests.{ne-eqb}

@@ -1,5 +1,5 @@
 use borrow.Author.Needs.{needs}
-use Rattle.laws.proofs.Rules.{cases}
+use Rattle.basics.proofs.Rules.{cases}
 use Rattle.operation.specs.Clock.{marksAfter}
 use native.Mathlib.Omega.{arith}
 use Rattle.operation.proofs.Facts.{fits}

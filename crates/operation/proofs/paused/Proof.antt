@@ -1,5 +1,5 @@
 use borrow.Author.Needs.{needs}
-use Rattle.laws.proofs.Rules.{cases}
+use Rattle.basics.proofs.Rules.{cases}
 use Rattle.operation.specs.Clock.{pausedOf}
 use Rattle.operation.proofs.paused.Statement.{statement}
 use Rattle.operation.proofs.paused.Tie as tie

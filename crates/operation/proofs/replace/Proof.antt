@@ -1,4 +1,4 @@
-use Rattle.laws.proofs.Rules.{cases}
+use Rattle.basics.proofs.Rules.{cases}
 use Rattle.operation.specs.Clock.{replaced}
 use Rattle.operation.proofs.replace.Statement.{statement}
 use Rattle.operation.proofs.replace.Tie as tie

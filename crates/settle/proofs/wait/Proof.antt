@@ -7,11 +7,11 @@ use native.Mathlib.Nat.{sub-zero}
 use native.Mathlib.Omega.{arith}
 use lib.ListN.{length}
 use borrow.Author.Tests.{eq-eqb}
-use Rattle.device.specs.Sound.{soundOf}
-use Rattle.device.proofs.Clauses.{parts}
-use Rattle.lapse.proofs.Laws.{passing-most}
+use Rattle.soundness.specs.Sound.{soundOf}
+use Rattle.soundness.proofs.Clauses.{parts}
+use Rattle.fast_forward.proofs.Laws.{forwarding-most}
 use Rattle.clock.specs.Fold.{world}
-use Rattle.clock.proofs.Kept.{advanced-sound}
+use Rattle.clock.proofs.Kept.{device-clock-sound}
 use Rattle.settle.specs.Settle.{settling}
 use Rattle.settle.proofs.Turns.{stops, goes-on}
 use Rattle.settle.proofs.Idle.{waits}
@@ -41,11 +41,11 @@ returns c =
     let a = w .before .before .args in
     sym (stops (a .sample) (a .limit - w .loop .count) (w .loop .count) (world (w .loop .d) (w .loop .image)) (sym (c .before .is-ready .ensures) ∙ c .if1 .taken)) ∙ w .loop .inv .3
 
-sub-pass : tie.Need-sub-pass Inv-loop μ-loop
-sub-pass c = c .before .before .before .before .before .before .loop .inv .0
+sub-forward : tie.Need-sub-forward Inv-loop μ-loop
+sub-forward c = c .before .before .before .before .before .before .loop .inv .0
 
-pass-requires : tie.Need-pass-requires Inv-loop μ-loop
-pass-requires c κs =
+forward-requires : tie.Need-forward-requires Inv-loop μ-loop
+forward-requires c κs =
     let w = c .before .before .before .before .before .before in
     (parts (w .loop .d) (w .loop .inv .2) .controller, w .loop .inv .1 ∙ w .before .before .pre .1 .0)
 
@@ -57,7 +57,7 @@ add-t14 c =
     let t = c .before .before .before .before in
     let w = t .before .before .before .before .before .before .before in
     let n = w .before .before .args .limit - w .loop .count in
-    let l = rw (← t .pass .ensures) at (passing-most n 0 (w .loop .d .controller) (w .loop .image)) in
+    let l = rw (← t .forward .ensures) at (forwarding-most n 0 (w .loop .d .controller) (w .loop .image)) in
     omega (arith, l)
 
 is-ready-requires-2 : tie.Need-is-ready-requires-2 Inv-loop μ-loop
@@ -67,7 +67,7 @@ same-length-2 : tie.Need-same-length-2 Inv-loop μ-loop
 same-length-2 c =
     let t = c .before .before .before .before .before in
     let w = t .before .before .before .before .before .before .before in
-    omega (arith, t .pass .kept .1 .0, w .loop .inv .1)
+    omega (arith, t .forward .kept .1 .0, w .loop .inv .1)
 
 returns-2 : tie.Need-returns-2 Inv-loop μ-loop
 returns-2 c =
@@ -76,11 +76,11 @@ returns-2 c =
     let w = i .before .before .before .before in
     let limit = w .before .before .args .limit in
     let z = w .loop .d in
-    let r = waits _ (w .before .before .pre .1 .1) (limit - w .loop .count) (w .loop .count) z (w .loop .image) _ _ _ (parts z (w .loop .inv .2) .controller) (eq-eqb (z .frame .kind) 0 (t .before .before .if2 .taken)) (t .pass .ensures) in
+    let r = waits _ (w .before .before .pre .1 .1) (limit - w .loop .count) (w .loop .count) z (w .loop .image) _ _ _ (parts z (w .loop .inv .2) .controller) (eq-eqb (z .frame .kind) 0 (t .before .before .if2 .taken)) (t .forward .ensures) in
     rw (c .is-ready2 .ensures, c .before .before .with-controller .ensures) r ∙ w .loop .inv .3
 
-advance-requires : tie.Need-advance-requires Inv-loop μ-loop
-advance-requires c κs =
+clock-device-requires : tie.Need-clock-device-requires Inv-loop μ-loop
+clock-device-requires c κs =
     let w = c .before .before .before .before .before .before in
     (w .loop .inv .2, w .loop .inv .1 ∙ w .before .before .pre .1 .0)
 
@@ -98,9 +98,9 @@ loop-again c =
     let limit = w .before .before .args .limit in
     let e : limit - w .loop .count ≡ limit - (w .loop .count + 1) + 1 = omega arith in (
       omega arith,
-      omega (arith, t .advance .kept .1 .0),
-      rw (t .advance .ensures .0) (advanced-sound (w .loop .d) (w .loop .image) _ (w .loop .inv .2)),
-      goes-on _ (limit - w .loop .count) (limit - (w .loop .count + 1)) (w .loop .count) (w .loop .d) (w .loop .image) _ _ e (sym (i .before .is-ready .ensures) ∙ i .if1 .left) (t .advance .ensures .0) (t .advance .ensures .1)
+      omega (arith, t .clock-device .kept .1 .0),
+      rw (t .clock-device .ensures .0) (device-clock-sound (w .loop .d) (w .loop .image) _ (w .loop .inv .2)),
+      goes-on _ (limit - w .loop .count) (limit - (w .loop .count + 1)) (w .loop .count) (w .loop .d) (w .loop .image) _ _ e (sym (i .before .is-ready .ensures) ∙ i .if1 .left) (t .clock-device .ensures .0) (t .clock-device .ensures .1)
           ∙ w .loop .inv .3,
     )
 
@@ -126,14 +126,14 @@ wait-spec =
     is-ready-requires
     same-length
     returns
-    sub-pass
-    pass-requires
+    sub-forward
+    forward-requires
     with-controller-requires
     add-t14
     is-ready-requires-2
     same-length-2
     returns-2
-    advance-requires
+    clock-device-requires
     add-count
     loop-less
     loop-again

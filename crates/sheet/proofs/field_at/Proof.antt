@@ -1,6 +1,6 @@
 use borrow.Author.Needs.{needs}
-use Rattle.laws.proofs.Rules.{cases}
-use Rattle.laws.specs.All.{all}
+use Rattle.basics.proofs.Rules.{cases}
+use Rattle.basics.specs.All.{all}
 use Rattle.sheet.specs.Sheet.{fieldAt}
 use Rattle.sheet.proofs.field_at.Statement.{statement}
 use Rattle.sheet.proofs.field_at.Tie as tie

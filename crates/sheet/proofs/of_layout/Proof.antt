@@ -1,6 +1,6 @@
 use borrow.Author.Needs.{needs}
-use Rattle.laws.proofs.Rules.{cases}
-use Rattle.laws.specs.All.{all}
+use Rattle.basics.proofs.Rules.{cases}
+use Rattle.basics.specs.All.{all}
 use Rattle.sheet.specs.Sheet.{ofLayout}
 use Rattle.sheet.proofs.of_layout.Statement.{statement}
 use Rattle.sheet.proofs.of_layout.Tie as tie

@@ -1,6 +1,6 @@
 -- `sheet::write` meets its contract: what the tests, the bytes laid and their copy ensure, put together. Assumes nothing.
 use borrow.Author.Needs.{needs}
-use Rattle.laws.proofs.Rules.{cases}
+use Rattle.basics.proofs.Rules.{cases}
 use Rattle.sheet.specs.Sheet.{writeOf}
 use Rattle.sheet.proofs.write.Statement.{statement}
 use Rattle.sheet.proofs.write.Tie as tie

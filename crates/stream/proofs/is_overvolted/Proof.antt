@@ -5,9 +5,9 @@ use mathlib.Core.Path.{_≡_, _∙_, sym, refl}
 use mathlib.Core.Bool.{_||_}
 use native.Mathlib.Omega.{arith}
 use lib.ListN.{drop}
-use Rattle.glance.specs.Samples.{samples}
+use Rattle.record.specs.Sample.{samples}
 use Rattle.stream.specs.Run.{overvolted}
-use Rattle.glance.proofs.Turns.{samples-end}
+use Rattle.record.proofs.Samples.{samples-end}
 use Rattle.stream.proofs.Turns.{over-turn, over-end}
 use Rattle.stream.proofs.is_overvolted.Statement.{statement}
 use Rattle.stream.proofs.is_overvolted.Tie as tie
@@ -25,6 +25,9 @@ loop-holds c = (omega arith, refl)
 sample-at-requires : tie.Need-sample-at-requires Inv-loop μ-loop
 sample-at-requires c κs = omega arith
 
+voltage-requires : tie.Need-voltage-requires Inv-loop μ-loop
+voltage-requires c κs = tt
+
 either-requires : tie.Need-either-requires Inv-loop μ-loop
 either-requires c κs = tt
 
@@ -36,9 +39,9 @@ loop-less c = omega arith
 
 loop-again : tie.Need-loop-again Inv-loop μ-loop
 loop-again c =
-    let w = c .before .before .before in
+    let w = c .before .before .before .before in
     let s = w .before .before .args .stream .now in
-    (omega arith, rw (c .either .ensures, c .before .sample-at .ensures) (over-turn s (w .loop .k) (w .loop .over) (omega arith)) ∙ w .loop .inv .1)
+    (omega arith, rw (c .either .ensures, c .before .voltage .ensures, c .before .before .sample-at .ensures) (over-turn s (w .loop .k) (w .loop .over) (omega arith)) ∙ w .loop .inv .1)
 
 returns : tie.Need-returns Inv-loop μ-loop
 returns c =
@@ -54,6 +57,7 @@ is-overvolted-spec =
     μ-loop
     loop-holds
     sample-at-requires
+    voltage-requires
     either-requires
     add-k
     loop-less

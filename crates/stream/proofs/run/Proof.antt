@@ -1,8 +1,8 @@
--- `stream::run` meets its contract: number 0 tells what the walk asks for, and another number is all that is given.
+-- `stream::run` meets its contract: number 0 tells what `fast_run` asks for, and another number is all that is given.
 -- Assumes nothing.
 use borrow.Author.Needs.{needs}
 use native.Mathlib.Omega.{arith}
-use Rattle.device.proofs.Laws.{fresh-sound}
+use Rattle.soundness.proofs.Fresh.{fresh-sound}
 use Rattle.stream.proofs.Doors.{accepts, finishes, refuses}
 use Rattle.stream.proofs.run.Statement.{statement}
 use Rattle.stream.proofs.run.Tie as tie
@@ -13,8 +13,8 @@ cast-fresh c = let f = accepts _ _ _ _ _ _ _ (c .before .run-number .ensures) (c
 times-of-requires : tie.Need-times-of-requires
 times-of-requires c κs = accepts _ _ _ _ _ _ _ (c .before .run-number .ensures) (c .if1 .taken) .timely
 
-walk-requires : tie.Need-walk-requires
-walk-requires c κs =
+run-samples-requires : tie.Need-run-samples-requires
+run-samples-requires c κs =
     let p = c .before .before in
     let i = p .before .before in
     let f = accepts _ _ _ _ _ _ _ (i .before .run-number .ensures) (i .if1 .taken) in (
@@ -33,7 +33,7 @@ returns c =
     let t = c .before .before .before .before .before .before .before in
     let p = t .before .before .before in
     let i = p .before .before in
-    let w = rw (p .fresh .ensures, p .before .times-of .ensures) at (t .walk .ensures) in
+    let w = rw (p .fresh .ensures, p .before .times-of .ensures) at (t .run-samples .ensures) in
     rw (c .before .status .ensures) (finishes _ _ _ _ _ _ _ (i .before .run-number .ensures) (i .if1 .taken) (w .0) (w .1))
 
 returns-2 : tie.Need-returns-2
@@ -47,7 +47,7 @@ run-spec =
     cast-fresh
     times-of-requires
     (λ c κs. search needs)
-    walk-requires
+    run-samples-requires
     cast-t25
     (λ c κs. search needs)
     (λ c. search needs)

@@ -1,6 +1,6 @@
 -- `stream::run_number` meets its contract: each test on the way to a return is the one of the definition. Assumes nothing.
 use borrow.Author.Needs.{needs}
-use Rattle.laws.proofs.Rules.{cases}
+use Rattle.basics.proofs.Rules.{cases}
 use Rattle.stream.specs.Run.{misshapen, runNumber}
 use Rattle.stream.proofs.run_number.Statement.{statement}
 use Rattle.stream.proofs.run_number.Tie as tie

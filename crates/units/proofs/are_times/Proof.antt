@@ -1,6 +1,6 @@
 use borrow.Author.Needs.{needs}
-use Rattle.laws.proofs.Rules.{cases}
-use Rattle.laws.specs.All.{all}
+use Rattle.basics.proofs.Rules.{cases}
+use Rattle.basics.specs.All.{all}
 use Rattle.units.specs.Units.{timesFit}
 use Rattle.units.proofs.are_times.Statement.{statement}
 use Rattle.units.proofs.are_times.Tie as tie
@@ -13,6 +13,6 @@ are-times-spec =
     (λ c κs. search needs)
     (λ c κs. search needs)
     (λ c κs. search needs)
-    (λ c. search (cases, ← c .is-within3 .ensures, ← c .before .before .is-within2 .ensures, ← c .before .before .before .before .is-within .ensures))
-    (λ c. search (cases, ← c .before .is-within2 .ensures, ← c .before .before .before .is-within .ensures))
-    (λ c. search (cases, ← c .before .is-within .ensures)))
+    (λ c. search (cases, ← c .is-in-range3 .ensures, ← c .before .before .is-in-range2 .ensures, ← c .before .before .before .before .is-in-range .ensures))
+    (λ c. search (cases, ← c .before .is-in-range2 .ensures, ← c .before .before .before .is-in-range .ensures))
+    (λ c. search (cases, ← c .before .is-in-range .ensures)))

@@ -1,5 +1,5 @@
 use borrow.Author.Needs.{needs}
-use Rattle.laws.proofs.Rules.{cases}
+use Rattle.basics.proofs.Rules.{cases}
 use Rattle.units.specs.Units.{inClocks}
 use Rattle.units.proofs.in_clocks.Statement.{statement}
 use Rattle.units.proofs.in_clocks.Tie as tie

@@ -1,6 +1,6 @@
 use borrow.Author.Needs.{needs}
-use Rattle.laws.proofs.Rules.{cases}
-use Rattle.laws.specs.All.{all}
+use Rattle.basics.proofs.Rules.{cases}
+use Rattle.basics.specs.All.{all}
 use Rattle.view.specs.Shown.{isZeros}
 use Rattle.view.proofs.is_zeros.Statement.{statement}
 use Rattle.view.proofs.is_zeros.Tie as tie

@@ -1,6 +1,6 @@
 -- `view::view` meets its contract: the test of the arguments tells that both parts are there, the read lock chooses. Assumes nothing.
 use borrow.Author.Needs.{needs}
-use Rattle.laws.proofs.Rules.{cases}
+use Rattle.basics.proofs.Rules.{cases}
 use Rattle.view.specs.Shown.{shown}
 use mathlib.Core.Path.{sym}
 use native.Mathlib.Nat.{add-sub-cancel-left}

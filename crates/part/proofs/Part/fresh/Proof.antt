@@ -5,4 +5,4 @@ use Rattle.part.proofs.Part.fresh.Tie as tie
 
 pub fresh-spec : {M : Type 1} → statement M
 unfolding freshOf
-fresh-spec = tie.close (tie.spec (λ c κs. search needs) (λ c. rw (c .resting .ensures)))
+fresh-spec = tie.close (tie.spec (λ c κs. search needs) (λ c κs. search needs) (λ c. rw (c .resting .ensures, c .before .idle-frame .ensures)))

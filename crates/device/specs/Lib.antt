@@ -1,4 +1,0 @@
-pub mod Status
-pub mod Sound
-pub mod Power
-pub mod Told

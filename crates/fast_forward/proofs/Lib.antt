@@ -1,0 +1,5 @@
+pub mod Laws
+pub mod Free
+pub mod Replaced
+pub mod NothingDue
+pub mod Turns

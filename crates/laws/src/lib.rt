@@ -1,1 +1,0 @@
-// The proof kit that every room uses: no code, only laws.
