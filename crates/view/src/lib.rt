@@ -30,7 +30,7 @@ fn all_zero(bytes: &[u8]) -> bool
 fn is_zeros(page: &[u8]) -> bool
     ensures { λ r. ⌜ r ≡ isZeros (now (page .entry)) ⌝ }
 {
-    if page.len() == 65536 {
+    if page.len() == Part::BLOCK_BYTES as usize {
         return all_zero(page);
     }
     false
@@ -64,12 +64,13 @@ fn read_locked(device: Device, block: u32) -> bool
 pub fn view<'a>(device: Device, image: &'a [u8], page: &'a [u8], block: u32) -> &'a [u8]
     ensures { λ r. ⌜ now r ≡ shown device (now (image .entry)) (now (page .entry)) block ⌝ }
 {
+    let size = Part::BLOCK_BYTES as usize;
     if can_show(device, image, page, block) {
         if read_locked(device, block) {
-            return &page[..65536];
+            return &page[..size];
         }
-        let start = (block as usize) * 65536;
-        return &image[start..start + 65536];
+        let start = (block as usize) * size;
+        return &image[start..start + size];
     }
     &page[..0]
 }
@@ -83,13 +84,13 @@ pub fn piece_shown(device: Device, image: &[u8], page: &[u8], block: u32) -> Pie
             return Piece {
                 from: 2,
                 start: 0,
-                length: 65536,
+                length: Part::BLOCK_BYTES,
             };
         }
         return Piece {
             from: 1,
-            start: block * 65536,
-            length: 65536,
+            start: block * Part::BLOCK_BYTES,
+            length: Part::BLOCK_BYTES,
         };
     }
     Piece {

@@ -10,6 +10,7 @@ unfolding isZeros all
 is-zeros-spec =
     tie.close
     (tie.spec
+    (λ c. search needs)
     (λ c κs. search needs)
     (λ c. search (cases, c .all-zero .ensures))
     (λ c. search cases))

@@ -15,6 +15,7 @@ unfolding shown
 view-spec =
     tie.close
     (tie.spec
+    (λ c. search needs)
     (λ c κs. search needs)
     (λ c κs. let g = told _ _ _ _ _ (c .before .can-show .ensures) (c .if1 .taken) in omega arith)
     (λ c. let w = c .before .before .before in let g = told _ _ _ _ _ (w .before .can-show .ensures) (w .if1 .taken) in sym (length-take-le 65536 (w .before .before .before .before .args .page .now) (omega arith)))
@@ -24,6 +25,6 @@ view-spec =
     (λ c. search needs)
     (λ c. search needs)
     (λ c. let w = c .before .before in let g = told _ _ _ _ _ (w .before .can-show .ensures) (w .if1 .taken) in omega arith)
-    (λ c. let t = c .before .before in let w = t .before in search (cases, add-sub-cancel-left, ← t .read-locked .ensures, c .before .if2 .left, ← w .before .can-show .ensures, w .if1 .taken))
+    (λ c. let t = c .before .before in let w = t .before in rw (add-sub-cancel-left, ← w .before .can-show .ensures, w .if1 .taken, ← t .read-locked .ensures, c .before .if2 .left))
     (λ c. search needs)
     (λ c. search (cases, ← c .before .before .can-show .ensures)))
