@@ -1,14 +1,14 @@
 # Builds the proved library and the C host around it, and runs their tests.
 #
-#   make test       everything from nothing: proofs, must-fail edits, library, host tests; ends with 'N passed, 0 failed'
-#   make demo       the main job, on data of the repository
-#   make lib        the proved library as a C archive
-#   make host       the host's programs
-#   make quick      the host's tests alone, with the library that is there
-#   make fuzz       the library against the C model on random traffic, until stopped; FUZZ_SEED says where to begin
-#   make bench      how fast the library is, beside the C model
-#   make flashrom   flashrom writes and verifies the whole part, some minutes long
-#   make tidy       cppcheck and clang-tidy over the host
+#   make test      everything from nothing: proofs, must-fail edits, library, host tests; ends with 'N passed, 0 failed'
+#   make demo      the main job, on data of the repository
+#   make lib       the proved library as a C archive
+#   make host      the host's programs
+#   make quick     the host's tests alone, with the library that is there
+#   make fuzz      the library against the C model on random traffic, until stopped; FUZZ_SEED says where to begin
+#   make bench     how fast the library is, beside the C model
+#   make flashrom  flashrom writes and verifies the whole part, some minutes long
+#   make tidy      cppcheck and clang-tidy over the host
 #   make clean
 
 POD_LIB   := target/staticlib/libpod.a
@@ -63,6 +63,7 @@ compile = @mkdir -p build && echo "CC $@" && $(CC) $(CFLAGS) $(CPPFLAGS) -o $@
 
 host: $(PROGRAMS) build/traces
 
+# One rule for every program; the lines behind it say what each is made of.
 $(PROGRAMS): $(wildcard host/*.h) $(POD_LIB) | setup
 	$(compile) $(filter %.c %.o,$^) $(POD_LIB)
 
@@ -70,8 +71,8 @@ $(CHECKS): build/%: host/%.c
 build/diff build/speed: build/model.o
 $(BAY): $(wildcard host/bay/*.h)
 build/bay: $(wildcard host/bay/*.c)
-build/lay: host/bay/test/lay.c host/bay/frames.c      # makes streams from scripts
-build/poke: host/bay/test/poke.c                      # a client for the tests of the server
+build/lay: host/bay/test/lay.c host/bay/frames.c   # makes streams from scripts
+build/poke: host/bay/test/poke.c                   # a client for the tests of the server
 
 build/model.o: host/model.c host/model.h | setup
 	$(compile) -c $<
