@@ -1,9 +1,8 @@
 /* Tests that C and Rattle mean the same by the C face: the structs of the record and of every answer field by field, in
- * order, width and count, and the parameters of every exported function. Nothing else compares the two.
+ * order, width and count, and the parameters of every function. The functions that the header declares are those that the
+ * crates export. Nothing else compares the two.
  *
- *   layout_test [--whole] POD_H RT_FILE..
- *
- * With --whole, a function that the header declares and no crate exports is a fault. */
+ *   layout_test POD_H RT_FILE.. */
 #include "check.h"
 
 #include <ctype.h>
@@ -545,7 +544,7 @@ static void test_records(void)
     }
 }
 
-static void test_functions(int whole)
+static void test_functions(void)
 {
     char group[NAME + 32];
     for (size_t i = 0; i < rt_side.functions; i++) {
@@ -560,8 +559,6 @@ static void test_functions(int whole)
         }
         check_close();
     }
-    if (!whole)
-        return;
     check_group("layout: every function of the header is exported");
     for (size_t i = 0; i < c_side.functions; i++)
         if (find_function(&rt_side, c_side.function[i].name) == NULL)
@@ -570,15 +567,14 @@ static void test_functions(int whole)
 
 int main(int count, char **arguments)
 {
-    const int whole = count > 1 && strcmp(arguments[1], "--whole") == 0;
-    if (count < 3 + whole) {
-        fprintf(stderr, "usage: layout_test [--whole] POD_H RT_FILE..\n");
+    if (count < 3) {
+        fprintf(stderr, "usage: layout_test POD_H RT_FILE..\n");
         return EXIT_FAILURE;
     }
-    read_c(arguments[1 + whole]);
-    for (int i = 2 + whole; i < count; i++)
+    read_c(arguments[1]);
+    for (int i = 2; i < count; i++)
         read_rt(arguments[i]);
     test_records();
-    test_functions(whole);
+    test_functions();
     return check_end("layout_test");
 }

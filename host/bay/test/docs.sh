@@ -9,7 +9,7 @@ port=$(bay serve --port 0 --seconds 1 free.img | sed -n 's/^listening on 127\.0\
 rm free.img
 
 # What is typed begins with "$ "; all else is what is printed.
-sed -n '/^```console$/,/^```$/p' "$root/docs/bay.md" | grep -v '^```' | sed "s/4000/$port/g" >session
+awk '/^```/ { typed = $0 == "```console"; next } typed' "$root/docs/bay.md" | sed "s/4000/$port/g" >session
 
 case_ "the session in docs/bay.md prints what it says"
 installed bay flashrom

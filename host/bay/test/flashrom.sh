@@ -22,7 +22,7 @@ start() {
 stop() {
     kill -TERM $server
     ended $server
-    [ $got -eq 0 ] || wrong "the server's status is $got: $(cat err)"
+    [ "$got" -eq 0 ] || wrong "the server's status is $got: $(cat err)"
 }
 
 # flashrom goes on for ever where its programmer is gone, so it has a time
@@ -79,8 +79,9 @@ case_ "with write protect held low the same write fails, and the file is untouch
 cp old.img board.img
 ln board.img witness.img
 start --wp low
-chip -w new.img >out 2>&1
-[ $? -ne 0 ] || wrong "the write did not fail"
+if chip -w new.img >out 2>&1; then
+    wrong "the write did not fail"
+fi
 says out "ERASE FAILED!"
 says out "Good, writing to the flash chip apparently didn't do anything."
 gives 0 chip -r read.img

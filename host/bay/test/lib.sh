@@ -1,3 +1,4 @@
+# shellcheck shell=sh
 # Shared by the test scripts: a folder to work in, the built programs, and a count of the cases that held.
 # BAY_BUILD says where the programs were built, if not in the project's build folder.
 
@@ -28,6 +29,9 @@ name=
 bay() { "$BAY_BUILD/bay" "$@"; }
 lay() { "$BAY_BUILD/lay"; }
 poke() { "$BAY_BUILD/poke" "$@"; }
+
+# full BLOCKS WORDS...: bay where no file grows beyond so many blocks, as on a full disk.
+full() { (ulimit -f "$1" && shift && bay "$@"); }
 
 # installed GROUP PROGRAM: has the project install what a test needs; a case fails where that cannot be.
 installed() {
@@ -66,7 +70,7 @@ gives() {
     shift
     "$@" >out 2>err
     got=$?
-    [ $got -eq "$want" ] || wrong "status $got and not $want: $* ($(head -c 300 err))"
+    [ "$got" -eq "$want" ] || wrong "status $got and not $want: $* ($(head -c 300 err))"
 }
 
 # says FILE WORDS: the file has the words in one of its lines.
@@ -93,7 +97,7 @@ absent() { [ ! -e "$1" ] || wrong "$1 is there"; }
 tidy() { [ -z "$(find . -name '.bay-*')" ] || wrong "left over: $(find . -name '.bay-*')"; }
 
 # hex BYTES...: writes the bytes that the hexadecimal digits name.
-hex() { for byte in "$@"; do printf "\\$(printf %o "0x$byte")"; done; }
+hex() { for byte in "$@"; do printf %b "\\0$(printf %o "0x$byte")"; done; }
 
 # An image of the part's size, every byte of it Z (5Ah).
 make_image() { head -c 1048576 /dev/zero | tr '\0' 'Z' >"$1"; }

@@ -158,8 +158,7 @@ says out "0 done, 0 not, 12 empty"
 
 case_ "a full disk: no half-written image, and the status says so"
 mkdir little
-full() { (ulimit -f 200 && bay "$@"); }
-gives 74 full rack tonight --save little
+gives 74 full 200 rack tonight --save little
 [ -z "$(ls -A little)" ] || wrong "left: $(ls -A little)"
 
 case_ "a bay that waits for ever is ended after its time, and the others are done"
@@ -183,7 +182,7 @@ done
 began=$(date +%s)
 kill -TERM $running
 ended $running
-[ $got -eq 143 ] || wrong "status $got: it did not end by the signal"
+[ "$got" -eq 143 ] || wrong "status $got: it did not end by the signal"
 [ $(($(date +%s) - began)) -lt 20 ] || wrong "it waited for the bay that waits for ever"
 absent cut/bay02.img
 same cut/bay04.img after/bay04.img

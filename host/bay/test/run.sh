@@ -85,7 +85,7 @@ case_ "an empty stream is done"
 gives 0 bay run board.img empty.stream --answers none
 says out "samples  0 done"
 says out "status   80h"
-[ -e none ] && [ ! -s none ] || wrong "the answers are not an empty file"
+{ [ -e none ] && [ ! -s none ]; } || wrong "the answers are not an empty file"
 
 case_ "the longest stream is done, and one sample more is refusal 5"
 printf 'wait 65536\n' | lay >long.stream
@@ -175,12 +175,11 @@ explains
 
 case_ "a full disk: the old file stays, nothing is left over, and no second output is kept"
 echo old >answers
-full() { (ulimit -f 200 && bay "$@"); }
-gives 74 full run board.img maker.stream --answers answers --save save.img
+gives 74 full 200 run board.img maker.stream --answers answers --save save.img
 explains
 [ "$(cat save.img)" = old ] || wrong "save.img was written over"
 [ "$(cat answers)" = old ] || wrong "answers was written over"
-gives 74 full run board.img maker.stream --save fresh.img
+gives 74 full 200 run board.img maker.stream --save fresh.img
 absent fresh.img
 tidy
 
@@ -227,7 +226,7 @@ running=$!
 exec 9>pipe
 kill -TERM $running
 ended $running
-[ $got -eq 143 ] || wrong "status $got: it did not end by the signal"
+[ "$got" -eq 143 ] || wrong "status $got: it did not end by the signal"
 exec 9>&-
 absent never.img
 tidy

@@ -33,7 +33,7 @@ answers() {
 stop() {
     kill "-${2:-TERM}" $server
     ended $server
-    [ $got -eq "$1" ] || wrong "the server's status is $got and not $1: $(cat err)"
+    [ "$got" -eq "$1" ] || wrong "the server's status is $got and not $1: $(cat err)"
 }
 
 # the client's addresses are three bytes, lowest first; block 3 is F30000, its lock B30002
@@ -82,7 +82,7 @@ answers "06 06 06 0600" s:0C0200B301 r:1 s:0B r:1 s:0F r:1 s:090200B3 r:2
         i=$((i + 1))
     done
 } >script
-said=$(poke "$port" $(cat script) | tr '\n' ' ')
+said=$(xargs "$BAY_BUILD/poke" "$port" <script | tr '\n' ' ')
 [ "$said" = "06 06 06 06 06 06 06 06 15 " ] || wrong "a full buffer: $said"
 stop 0
 same board.img kept.img
@@ -171,7 +171,7 @@ case_ "top block lock low, and a voltage below lockout"
 start board.img --tbl low --once
 answers "06 06 06 06 0682" s:0C0200BF00 r:1 s:0C0000FF20 r:1 s:0C0000FFD0 r:1 s:0F r:1 s:090000FF r:2
 ended $server
-[ $got -eq 0 ] || wrong "the server's status is $got"
+[ "$got" -eq 0 ] || wrong "the server's status is $got"
 start board.img --voltage 0 --once
 answers "06 06 06 06 0688" s:0C0200B300 r:1 s:0C0000F320 r:1 s:0C0000F3D0 r:1 s:0F r:1 s:090000F3 r:2
 ended $server
@@ -182,11 +182,11 @@ start board.img --clients 2
 answers 06 s:00 r:1
 answers 06 s:00 r:1
 ended $server
-[ $got -eq 0 ] || wrong "after its clients the server's status is $got"
+[ "$got" -eq 0 ] || wrong "after its clients the server's status is $got"
 says log "the last client is served"
 start board.img --seconds 1
 ended $server
-[ $got -eq 0 ] || wrong "after its time the server's status is $got"
+[ "$got" -eq 0 ] || wrong "after its time the server's status is $got"
 says log "time is over"
 start board.img --seconds 2
 poke "$port" w:1 s:00 r:1 w:3000 s:00 r:1 >first 2>/dev/null

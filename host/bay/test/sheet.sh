@@ -50,8 +50,8 @@ hex 01 01 00 10 02 06 00 00 00 42 0F 1E 00 >straps
 gives 3 bay sheet read straps
 explains
 says err "found     13 bytes: 01 01 00 10 02 06 00 00 00 42 0F 1E 00"
-hex 01 01 00 00 02 06 00 00 00 42 0F 1E 00 >time
-gives 4 bay sheet read time
+hex 01 01 00 00 02 06 00 00 00 42 0F 1E 00 >zero
+gives 4 bay sheet read zero
 explains
 echo old >kept
 gives 3 bay sheet write kept --straps 16

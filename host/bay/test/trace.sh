@@ -153,8 +153,7 @@ tidy
 
 case_ "a full disk: the old waveform stays"
 echo old >kept.vcd
-full() { (ulimit -f 50 && bay "$@"); }
-gives 74 full trace board.img night.stream --times 10,1,30 --vcd kept.vcd
+gives 74 full 50 trace board.img night.stream --times 10,1,30 --vcd kept.vcd
 explains
 [ "$(cat kept.vcd)" = old ] || wrong "kept.vcd was written over"
 tidy
@@ -180,7 +179,7 @@ kill -INT $running 2>/dev/null
 kill -TERM $running 2>/dev/null
 ended $running
 exec 9<&-
-[ $got -gt 128 ] || wrong "status $got: it did not end by the signal"
+[ "$got" -gt 128 ] || wrong "status $got: it did not end by the signal"
 [ "$(cat kept.vcd)" = old ] || wrong "kept.vcd was written over"
 tidy
 
