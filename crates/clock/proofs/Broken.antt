@@ -48,9 +48,9 @@ pub data BrokenOff : List ℕ → Type 0 where
       → BrokenOff (first ∷ (others ++ (last ∷ [])))
 
 -- within n clocks more the frame writes no byte: it does not come to clock 12, or is no write
-pub data Free (n : ℕ) (f : Frame) : Type 0 where
-  before : f .clock + n ≤ 11 → Free n f
-  other : isWrite f ≡ false → Free n f
+pub data Writeless (n : ℕ) (f : Frame) : Type 0 where
+  before : f .clock + n ≤ 11 → Writeless n f
+  other : isWrite f ≡ false → Writeless n f
 
 -- the world with its bus idle
 abbrev pub silenced : World → World
@@ -195,96 +195,96 @@ follows straps f s e = pick (ask (isIdle f)) (ask (ltb (f .clock) 10)) (ask (isR
     pick (no b) (no c) (yes d) = rw (e, b, c, d) (read-follows f)
     pick (no b) (no c) (no d) = rw (e, b, c, d) (write-follows f (lines s))
 
-calm-next : (n straps : ℕ) (f : Frame) (s : ℕ) → frameLine s ≡ 1 → Free (suc n) f → Free n (frameClock straps f s)
-calm-next n straps f s e (before h) = let q = follows straps f s e in before (omega arith)
-calm-next n straps f s e (other h) = other (follows straps f s e .kind h)
+writeless-next : (n straps : ℕ) (f : Frame) (s : ℕ) → frameLine s ≡ 1 → Writeless (suc n) f → Writeless n (frameClock straps f s)
+writeless-next n straps f s e (before h) = let q = follows straps f s e in before (omega arith)
+writeless-next n straps f s e (other h) = other (follows straps f s e .kind h)
 
 -- where the frame line is low, a frame is at clock 1 at most
-begun-calm : (n nibble : ℕ) → n ≤ 10 → Free n (begun nibble)
+begun-writeless : (n nibble : ℕ) → n ≤ 10 → Writeless n (begun nibble)
 unfolding begun
-begun-calm n nibble h = pick (ask (eqb nibble 13)) (ask (eqb nibble 14))
+begun-writeless n nibble h = pick (ask (eqb nibble 13)) (ask (eqb nibble 14))
   where
-    pick : Answer (eqb nibble 13) → Answer (eqb nibble 14) → Free n (begun nibble)
+    pick : Answer (eqb nibble 13) → Answer (eqb nibble 14) → Writeless n (begun nibble)
     pick (yes a) b = rw a (other refl)
     pick (no a) (yes b) = rw (a, b) (before (omega arith))
     pick (no a) (no b) = rw (a, b) (other refl)
 
-calm-low : (n straps : ℕ) (f : Frame) (s : ℕ) → frameLine s ≡ 0 → n ≤ 10 → Free n (frameClock straps f s)
+writeless-low : (n straps : ℕ) (f : Frame) (s : ℕ) → frameLine s ≡ 0 → n ≤ 10 → Writeless n (frameClock straps f s)
 unfolding frameClock
-calm-low n straps f s e h = rw e (begun-calm n (lines s) h)
+writeless-low n straps f s e h = rw e (begun-writeless n (lines s) h)
 
-calm-read : (n straps : ℕ) (f : Frame) (s : ℕ) → frameLine s ≡ 0 → lines s ≡ 13 → Free n (frameClock straps f s)
+writeless-read : (n straps : ℕ) (f : Frame) (s : ℕ) → frameLine s ≡ 0 → lines s ≡ 13 → Writeless n (frameClock straps f s)
 unfolding frameClock begun
-calm-read n straps f s e h = rw (e, h) (other refl)
+writeless-read n straps f s e h = rw (e, h) (other refl)
 
 -- a byte is written on clock 12 of a write
-calm-asked : (n : ℕ) (f : Frame) → Free n f → isWritten (askedOf f) ≡ false
+writeless-asked : (n : ℕ) (f : Frame) → Writeless n f → isWritten (askedOf f) ≡ false
 unfolding askedOf
-calm-asked n f = pick (ask (isRead f)) (ask (eqb (f .clock) 15)) (ask (isWrite f))
+writeless-asked n f = pick (ask (isRead f)) (ask (eqb (f .clock) 15)) (ask (isWrite f))
   where
-    pick : Answer (isRead f) → Answer (eqb (f .clock) 15) → Answer (isWrite f) → Free n f → isWritten (askedOf f) ≡ false
+    pick : Answer (isRead f) → Answer (eqb (f .clock) 15) → Answer (isWrite f) → Writeless n f → isWritten (askedOf f) ≡ false
     pick (yes a) (yes b) c k = rw (a, b)
     pick (yes a) (no b) c k = rw (a, b)
     pick (no a) b (no c) k = rw (a, c)
     pick (no a) b (yes c) (before h) = rw (a, c, ne-eqb (f .clock) 12 (λ e. omega arith))
     pick (no a) b (yes c) (other h) = clash (sym h ∙ c)
 
-calm-writes : (n : ℕ) (w : World) (s : ℕ) → Free n (framed w s) → writes w s ≡ false
+writeless-writes : (n : ℕ) (w : World) (s : ℕ) → Writeless n (framed w s) → writes w s ≡ false
 unfolding writes
-calm-writes n w s k = pick (ask (isReset s))
+writeless-writes n w s k = pick (ask (isReset s))
   where
     pick : Answer (isReset s) → writes w s ≡ false
     pick (yes a) = rw a
-    pick (no a) = rw a (calm-asked n (framed w s) k)
+    pick (no a) = rw a (writeless-asked n (framed w s) k)
 
 -- the rest of a clock leaves kind and clock of the frame, or drops the frame
-answered-calm : (n : ℕ) (a : Asked) (d : Device) (image : List ℕ) (s : ℕ)
-    → Free n (d .frame)
+answered-writeless : (n : ℕ) (a : Asked) (d : Device) (image : List ℕ) (s : ℕ)
+    → Writeless n (d .frame)
     → isWritten a ≡ false
-    → Free n (answeredTo a d image s .device .frame)
-answered-calm n Silent d image s k e = k
-answered-calm n (Read address) d image s (before h) e = before h
-answered-calm n (Read address) d image s (other h) e = other h
-answered-calm n (Write address byte) d image s k e = clash (sym e)
+    → Writeless n (answeredTo a d image s .device .frame)
+answered-writeless n Silent d image s k e = k
+answered-writeless n (Read address) d image s (before h) e = before h
+answered-writeless n (Read address) d image s (other h) e = other h
+answered-writeless n (Write address byte) d image s k e = clash (sym e)
 
-calm-onward : (n : ℕ) (w : World) (s : ℕ) → Free n (framed w s) → Free n (onward w s .device .frame)
+writeless-onward : (n : ℕ) (w : World) (s : ℕ) → Writeless n (framed w s) → Writeless n (onward w s .device .frame)
 unfolding onward deviceClock resetDevice servedOf
-calm-onward n w s k = pick (ask (isReset s))
+writeless-onward n w s k = pick (ask (isReset s))
   where
-    pick : Answer (isReset s) → Free n (onward w s .device .frame)
+    pick : Answer (isReset s) → Writeless n (onward w s .device .frame)
     pick (yes a) = rw a (other refl)
     pick (no a) =
         rw a
-        (answered-calm n (askedOf (framed w s)) (withFrame (afterController (w .device)) (framed w s)) _ s k (calm-asked n (framed w s) k))
+        (answered-writeless n (askedOf (framed w s)) (withFrame (afterController (w .device)) (framed w s)) _ s k (writeless-asked n (framed w s) k))
 
 -- no byte is written: from a frame in progress, and from its first clock on
 pub unwritten-on : (hs : List ℕ) (t : ℕ) (w : World)
-    → Free (length hs) (w .device .frame)
+    → Writeless (length hs) (w .device .frame)
     → high hs ≡ true
     → frameLine t ≡ 0
     → never writes (hs ++ (t ∷ [])) w ≡ true
-unwritten-on [] t w k e f = rw (calm-writes 0 w t (calm-low 0 (w .device .straps) (w .device .frame) t f (omega arith)))
+unwritten-on [] t w k e f = rw (writeless-writes 0 w t (writeless-low 0 (w .device .straps) (w .device .frame) t f (omega arith)))
 unwritten-on (h ∷ hs) t w k e f =
     let a = eqb-true (frameLine h) 1 (and-left (eqb (frameLine h) 1) (high hs) e) in
-    let c = calm-next (length hs) (w .device .straps) (w .device .frame) h a k in
-    rw (calm-writes (length hs) w h c)
-    (unwritten-on hs t (onward w h) (calm-onward (length hs) w h c) (and-right (eqb (frameLine h) 1) (high hs) e) f)
+    let c = writeless-next (length hs) (w .device .straps) (w .device .frame) h a k in
+    rw (writeless-writes (length hs) w h c)
+    (unwritten-on hs t (onward w h) (writeless-onward (length hs) w h c) (and-right (eqb (frameLine h) 1) (high hs) e) f)
 
 begins : (s : ℕ) (hs : List ℕ) (t : ℕ) (w : World)
-    → Free (length hs) (framed w s)
+    → Writeless (length hs) (framed w s)
     → high hs ≡ true
     → frameLine t ≡ 0
     → never writes (s ∷ (hs ++ (t ∷ []))) w ≡ true
 begins s hs t w c e f =
-    rw (calm-writes (length hs) w s c) (unwritten-on hs t (onward w s) (calm-onward (length hs) w s c) e f)
+    rw (writeless-writes (length hs) w s c) (unwritten-on hs t (onward w s) (writeless-onward (length hs) w s c) e f)
 
 pub unwritten : (ss : List ℕ) (w : World) → BrokenOff ss → never writes ss w ≡ true
-unwritten ss w (early s hs t b e l f) = begins s hs t w (calm-low (length hs) (w .device .straps) (w .device .frame) s b l) e f
-unwritten ss w (reading s hs t b r e f) = begins s hs t w (calm-read (length hs) (w .device .straps) (w .device .frame) s b r) e f
+unwritten ss w (early s hs t b e l f) = begins s hs t w (writeless-low (length hs) (w .device .straps) (w .device .frame) s b l) e f
+unwritten ss w (reading s hs t b r e f) = begins s hs t w (writeless-read (length hs) (w .device .straps) (w .device .frame) s b r) e f
 
 -- but for the frame, the world is as with the bus idle: from a frame in progress, and from its first clock on
 pub broken-on : (hs : List ℕ) (t : ℕ) (w : World)
-    → Free (length hs) (w .device .frame)
+    → Writeless (length hs) (w .device .frame)
     → high hs ≡ true
     → frameLine t ≡ 0
     → silenced (through (hs ++ (t ∷ [])) w) ≡ through (map raised (hs ++ (t ∷ []))) (silenced w)

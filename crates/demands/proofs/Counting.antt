@@ -40,18 +40,18 @@ pub itself : (o : Operation) → Like o o
 itself o = record { kind = refl; address = refl; byte = refl }
 
 -- one clock of an operation that counts
-data Tick (o : Operation) : Type 0 where
-  over : isLast o ≡ true → operationClock o .operation ≡ absent → operationClock o .finished ≡ true → Tick o
-  on : isLast o ≡ false → operationClock o .finished ≡ false → Like o (operationClock o .operation) → Tick o
+data OneClock (o : Operation) : Type 0 where
+  over : isLast o ≡ true → operationClock o .operation ≡ absent → operationClock o .finished ≡ true → OneClock o
+  on : isLast o ≡ false → operationClock o .finished ≡ false → Like o (operationClock o .operation) → OneClock o
 
 -- what counts is not suspended
 stirring : (o : Operation) → isStill o ≡ false → isSuspended o ≡ false
 unfolding isStill
 stirring o e = rw (moving o e) at e
 
-clock_operation : (o : Operation) → isStill o ≡ false → Tick o
+one-clock : (o : Operation) → isStill o ≡ false → OneClock o
 unfolding operationClock isLast
-clock_operation o m = pick (ask (ltb 1 (o .left .0))) (ask (isProgram o)) (ask (ltb 1 (o .slices)))
+one-clock o m = pick (ask (ltb 1 (o .left .0))) (ask (isProgram o)) (ask (ltb 1 (o .slices)))
   where
     a : isAbsent o ≡ false
     a = moving o m
@@ -59,7 +59,7 @@ clock_operation o m = pick (ask (ltb 1 (o .left .0))) (ask (isProgram o)) (ask (
     u : isSuspended o ≡ false
     u = stirring o m
 
-    pick : Answer (ltb 1 (o .left .0)) → Answer (isProgram o) → Answer (ltb 1 (o .slices)) → Tick o
+    pick : Answer (ltb 1 (o .left .0)) → Answer (isProgram o) → Answer (ltb 1 (o .slices)) → OneClock o
     pick (yes l) p s =
         let k = paused-same (withLeft o (o .slices) (clocks (o .left .0 - 1))) in
         on (rw (a, u, l)) (rw l) (record { kind = rw l (k .kind); address = rw l (k .address); byte = rw l (k .byte) })
@@ -189,12 +189,12 @@ turning : (b : ℕ) (c : Controller) (d : List ℕ) (o : Operation)
     → (Like o (operationClock o .operation) → opOf b (controllerClock c .controller) ≡ operationClock o .operation)
     → length d ≡ 1048576
     → Counting b c d
-turning b c d o e a f m w x y g k l = pick (clock_operation o m)
+turning b c d o e a f m w x y g k l = pick (one-clock o m)
   where
     r : rest (operationClock o .operation) (applied (operationClock o .effect) d) ≡ rest o d
     r = operation-clock-rest o d f a l
 
-    pick : Tick o → Counting b c d
+    pick : OneClock o → Counting b c d
     pick (over t n q) =
         let z = ap (λ (v : Operation). rest v (applied (operationClock o .effect) d)) n ∙ absent-rest absent (applied (operationClock o .effect) d) refl in
         ends w (rw e t) (rw e a) (rw (g n)) (rw (x, e) (ap (contents b) (sym z ∙ r)))
@@ -308,7 +308,7 @@ alone b c d h e l i = pick (ask (isStill (c .outer))) (ask (isOn b (c .outer)))
     quiet m (yes x) = rw (on-outer b c x) (still-last (c .outer) m)
     quiet m (no x) = rw (on-none b c x side) absent-last
 
-    gone-off : Tick (c .outer) → isOn b (c .outer) ≡ false → isOn b (operationClock (c .outer) .operation) ≡ false
+    gone-off : OneClock (c .outer) → isOn b (c .outer) ≡ false → isOn b (operationClock (c .outer) .operation) ≡ false
     gone-off (over t n q) x = rw n (off-none b)
     gone-off (on t q n) x = like-on b (c .outer) (operationClock (c .outer) .operation) n ∙ x
 
@@ -324,7 +324,7 @@ alone b c d h e l i = pick (ask (isStill (c .outer))) (ask (isOn b (c .outer)))
         let a = moving (c .outer) m in
         let f = outer-fits c e a in
         elsewhere b c d (c .outer) absent h (on-none b c x side)
-        (on-none b (controllerClock c .controller) (rw (turn true c i m .next) (gone-off (clock_operation (c .outer) m) x)) (rw (turn true c i m .side) side))
+        (on-none b (controllerClock c .controller) (rw (turn true c i m .next) (gone-off (one-clock (c .outer) m) x)) (rw (turn true c i m .side) side))
         absent-last (λ z. clash (sym z)) f (off-there b (c .outer) a x) (turn true c i m .effect) (turn true c i m .marks) l
 
 -- a clock with one
@@ -342,7 +342,7 @@ inside-erase b c d h e l i = pick (ask (isOn b (c .outer))) (ask (isOn b (c .inn
     m : isStill (c .inner) ≡ false
     m = n .moves
 
-    gone-off : Tick (c .inner) → isOn b (c .inner) ≡ false → isOn b (operationClock (c .inner) .operation) ≡ false
+    gone-off : OneClock (c .inner) → isOn b (c .inner) ≡ false → isOn b (operationClock (c .inner) .operation) ≡ false
     gone-off (over t g q) x = rw g (off-none b)
     gone-off (on t q k) x = like-on b (c .inner) (operationClock (c .inner) .operation) k ∙ x
 
@@ -361,7 +361,7 @@ inside-erase b c d h e l i = pick (ask (isOn b (c .outer))) (ask (isOn b (c .inn
         l
     pick (no x) (no y) =
         elsewhere b c d (c .inner) absent h (on-none b c x y)
-        (on-none b (controllerClock c .controller) (rw (turn false c i m .side) x) (rw (turn false c i m .next) (gone-off (clock_operation (c .inner) m) y)))
+        (on-none b (controllerClock c .controller) (rw (turn false c i m .side) x) (rw (turn false c i m .next) (gone-off (one-clock (c .inner) m) y)))
         absent-last (λ z. clash (sym z)) (n .sound) (off-there b (c .inner) i y) (turn false c i m .effect) (turn false c i m .marks) l
 
 pub counting : (b : ℕ) (c : Controller) (d : List ℕ) → b < 16 → controllerFits c ≡ true → length d ≡ 1048576 → Counting b c d

@@ -37,8 +37,8 @@ goes-on : (w : World) (s : ℕ) → Good w → eqb (voltage s) 3 ≡ false → a
 unfolding onward
 goes-on w s g v = steps w s g v
 
-operation_free : (s : ℕ) (ss : List ℕ) → overvolted (s ∷ ss) ≡ false → (eqb (voltage s) 3 ≡ false) × (overvolted ss ≡ false)
-operation_free s ss e = pick (ask (eqb (voltage s) 3))
+not-class-3 : (s : ℕ) (ss : List ℕ) → overvolted (s ∷ ss) ≡ false → (eqb (voltage s) 3 ≡ false) × (overvolted ss ≡ false)
+not-class-3 s ss e = pick (ask (eqb (voltage s) 3))
   where
     pick : Answer (eqb (voltage s) 3) → (eqb (voltage s) 3 ≡ false) × (overvolted ss ≡ false)
     pick (yes v) = clash (sym (rw v at e))
@@ -47,7 +47,7 @@ operation_free s ss e = pick (ask (eqb (voltage s) 3))
 as-history : (ss : List ℕ) (w : World) → Good w → overvolted ss ≡ false → ending (map clock ss) w ≡ through ss w
 as-history [] w g e = refl
 as-history (s ∷ ss) w g e =
-    let c = operation_free s ss e in
+    let c = not-class-3 s ss e in
     as-history ss (after (clock s) w) (good-after (clock s) w g) (c .1) ∙ ap (through ss) (goes-on w s g (c .0))
 
 -- what a run that is done has found
