@@ -131,11 +131,11 @@ pub fn clock_device(d: Device, image: &mut [u8], sample: u16) -> DeviceClocked
     }
     let c = d.controller;
     let k = clock_controller(c);
-    let controllerClocked = k.controller;
+    let counted = k.controller;
     let effect = k.effect;
     apply(effect, image);
     let mut next = d;
-    next.controller = controllerClocked;
+    next.controller = counted;
     let r = serve(next, image, sample);
     let device = r.device;
     let verdict = r.verdict;
