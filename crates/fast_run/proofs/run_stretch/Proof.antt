@@ -1,6 +1,7 @@
 -- `fast_run::run_stretch` meets its contract: what the bus did alone, and then one stretch more, if there is room for it.
 -- Assumes nothing.
 use borrow.Author.Needs.{needs}
+use mathlib.Core.Path.{_∙_}
 use native.Mathlib.Omega.{arith}
 use Rattle.soundness.proofs.Clauses.{parts}
 use Rattle.fast_run.proofs.Leads.{stretched-on}
@@ -52,10 +53,10 @@ run-stretch-spec =
     (λ c. search needs)
     (λ c. search needs)
     stretch-on-requires
-    (λ c. search needs)
-    (λ c. search needs)
+    (λ c. c .before .before .before .before .stretch-on .kept .1 .0)
+    (λ c. c .before .before .before .before .stretch-on .kept .1 .1 .1 .0 ∙ c .before .before .before .before .before .before .before .before .before .before .before .run-bus-alone .kept .1 .1 .1 .0)
     returns
     (λ c κs. search needs)
-    (λ c. search needs)
-    (λ c. search needs)
+    (λ c. c .before .before .device-later .kept .1 .0)
+    (λ c. c .before .before .before .before .before .before .before .before .run-bus-alone .kept .1 .1 .1 .0)
     returns-2)

@@ -44,16 +44,16 @@ step-bus-spec =
     tie.close
     (tie.spec
     (λ c κs. search needs)
-    (λ c κs. search needs)
+    (λ c κs. tt)
     skip-idle-requires
-    (λ c κs. search needs)
-    (λ c. search needs)
+    (λ c κs. tt)
+    (λ c. c .before .before .before .skip-idle .kept .1 .0)
     returns
     (λ c κs. search needs)
     (λ c. search needs)
     take-read-requires
-    (λ c. search needs)
+    (λ c. c .before .before .take-read .kept .1 .1 .1 .0)
     returns-2
     (λ c κs. search needs)
-    (λ c. search needs)
-    (λ c. search needs))
+    (λ c. c .before .before .clock-bus .kept .1 .1 .1 .0)
+    (λ c. c .before .before .clock-bus .ensures))

@@ -27,11 +27,11 @@ stretch-idle-spec =
     tie.close
     (tie.spec
     skip-idle-requires
-    (λ c κs. search needs)
+    (λ c κs. tt)
     (λ c. search needs)
     (λ c. search needs)
     (λ c. search needs)
     (λ c κs. search needs)
-    (λ c. search needs)
-    (λ c. search needs)
+    (λ c. c .before .before .device-later .kept .1 .0)
+    (λ c. c .before .before .before .before .before .before .before .skip-idle .kept .1 .0)
     returns)

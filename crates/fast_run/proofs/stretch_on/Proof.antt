@@ -8,8 +8,9 @@ use Rattle.fast_run.proofs.stretch_on.Tie as tie
 
 stretch-idle-requires : tie.Need-stretch-idle-requires
 stretch-idle-requires c κs =
-    let z = c .before .before .before .before .before .before .before .before in
-    (z .pre .0, (z .pre .1 .0, (z .pre .1 .1 .0, (cc))))
+    let i = c .before .before in
+    let z = i .before .before .before .before .before .before in
+    (z .pre .0, (z .pre .1 .0, (z .pre .1 .1 .0, rw (i .before .before .sample-at .ensures) at (sym (i .before .stays-idle .ensures) ∙ i .if1 .taken))))
 
 stretch-write-requires : tie.Need-stretch-write-requires
 stretch-write-requires c κs =
@@ -24,17 +25,17 @@ stretch-on-spec =
     tie.close
     (tie.spec
     (λ c κs. search needs)
-    (λ c κs. search needs)
+    (λ c κs. tt)
     stretch-idle-requires
-    (λ c. search needs)
-    (λ c. search needs)
-    (λ c. search needs)
+    (λ c. c .before .before .before .before .stretch-idle .kept .1 .0)
+    (λ c. c .before .before .before .before .stretch-idle .kept .1 .1 .1 .0)
+    (λ c. c .before .before .before .before .stretch-idle .ensures)
     (λ c κs. search needs)
     stretch-write-requires
-    (λ c. search needs)
-    (λ c. search needs)
-    (λ c. search needs)
+    (λ c. c .before .before .before .before .stretch-write .kept .1 .0)
+    (λ c. c .before .before .before .before .stretch-write .kept .1 .1 .1 .0)
+    (λ c. c .before .before .before .before .stretch-write .ensures)
     (λ c κs. search needs)
-    (λ c. search needs)
-    (λ c. search needs)
-    (λ c. search needs))
+    (λ c. c .before .before .before .before .stretch-clock .kept .1 .0)
+    (λ c. c .before .before .before .before .stretch-clock .kept .1 .1 .1 .0)
+    (λ c. c .before .before .before .before .stretch-clock .ensures))

@@ -38,9 +38,9 @@ stretch-write-spec =
     (λ c κs. search needs)
     (λ c. search needs)
     (λ c κs. search needs)
-    (λ c κs. search needs)
+    (λ c κs. tt)
     fill-requires
     add-t15
-    (λ c. search needs)
-    (λ c. search needs)
+    (λ c. c .before .before .before .before .before .before .before .before .before .device-later .kept .1 .0)
+    (λ c. c .before .before .fill .kept .0)
     returns)

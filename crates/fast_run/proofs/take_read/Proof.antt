@@ -6,7 +6,10 @@ use Rattle.fast_run.proofs.take_read.Tie as tie
 
 returns : tie.Need-returns
 unfolding readByte
-returns c = ((cc), c .before .before .answer-read .ensures)
+returns c =
+    let t = c .before .before .before .before in
+    let a = t .before .before .before in
+    (rw (t .value .ensures, t .before .before .sample-at .ensures, a .array-address .ensures, a .before .address-at .ensures), c .before .before .answer-read .ensures)
 
 pub take-read-spec : {M : Type 1} → statement M
 take-read-spec =
@@ -14,12 +17,12 @@ take-read-spec =
     (tie.spec
     (λ c. search needs)
     (λ c κs. search needs)
-    (λ c κs. search needs)
+    (λ c κs. tt)
     (λ c. search needs)
     (λ c. search needs)
     (λ c κs. search needs)
     (λ c. search needs)
+    (λ c κs. tt)
     (λ c κs. search needs)
-    (λ c κs. search needs)
-    (λ c. search needs)
+    (λ c. c .before .before .answer-read .kept .0)
     returns)
