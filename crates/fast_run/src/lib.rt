@@ -28,9 +28,10 @@ use record::is_reset;
 use record::sample_at;
 ghost use mathlib.Core.Path.{_≡_};
 ghost use mathlib.Core.Bool.{true, false};
-ghost use mathlib.Core.List.{_++_};
-ghost use Prim.Native.Nat.{_+_, _-_, _*_, _/_, _≤_, _<_};
+ghost use mathlib.Core.List.{List, _++_};
+ghost use Prim.Native.Nat.{ℕ, _+_, _-_, _*_, _/_, _≤_, _<_};
 ghost use lib.ListN.{length, drop};
+ghost use Rattle.record.specs.declared.Device.{Device};
 ghost use Rattle.soundness.specs.Sound.{controllerFits, soundOf};
 ghost use Rattle.fast_forward.specs.Forward.{imageLater, controllerFree};
 ghost use Rattle.bus.specs.declared.Asked.the-variants.{Nothing};
@@ -93,23 +94,24 @@ fn is_silent(f: Frame) -> bool
 // One clock of the bus alone, or none: it stops before a reset, before a whole write, and before a clock on which the frame
 // asks for something.
 fn clock_bus(
-    d: Device,
-    image: &[u8],
+    straps: u8,
     stream: &[u8],
     answers: &mut [u8],
     f: Frame,
     k: usize,
     to: usize,
 ) -> BusAlone
-    requires { ⌜ Room d (now image) (now stream) (now answers) to ⌝ }
     requires { ⌜ k < to ⌝ }
+    requires { ⌜ 2 * to ≤ length (now stream) ⌝ }
+    requires { ⌜ to ≤ length (now answers) ⌝ }
     ensures { λ r. ⌜ (r .place ≤ to)
-        × Alone d (now (image .entry)) (now (stream .entry)) k f (now (answers .entry)) (r .place) (r .frame) (now (answers .exit)) ⌝ }
+        × ((d : Device) (image : List ℕ) → d .straps ≡ straps
+        → Alone d image (now (stream .entry)) k f (now (answers .entry)) (r .place) (r .frame) (now (answers .exit))) ⌝ }
 {
-    if stops_before(stream, d.straps, k, to) {
+    if stops_before(stream, straps, k, to) {
         return BusAlone { place: k, frame: f };
     }
-    let next = clock_frame(d.straps, f, sample_at(stream, k));
+    let next = clock_frame(straps, f, sample_at(stream, k));
     if is_silent(next) {
         answers[k] = drive(next);
         return BusAlone {
@@ -147,7 +149,7 @@ fn step_bus(
             frame: take_read(d, image, stream, answers, k),
         };
     }
-    clock_bus(d, image, stream, answers, f, k, to)
+    clock_bus(d.straps, stream, answers, f, k, to)
 }
 
 // The bus alone, while nothing is due in the controller, step by step until one goes no further.

@@ -1,6 +1,6 @@
 -- `fast_run::step_bus` meets its contract. Assumes nothing.
 use borrow.Author.Needs.{needs}
-use mathlib.Core.Path.{_∙_, sym}
+use mathlib.Core.Path.{_∙_, sym, refl}
 use native.Mathlib.Omega.{arith}
 use Rattle.soundness.proofs.Clauses.{parts}
 use Rattle.fast_run.proofs.Whole.{whole-room}
@@ -55,5 +55,5 @@ step-bus-spec =
     (λ c. c .before .before .take-read .kept .1 .1 .1 .0)
     returns-2
     (λ c κs. search needs)
-    (λ c. c .before .before .clock-bus .kept .1 .1 .1 .0)
-    (λ c. c .before .before .clock-bus .ensures))
+    (λ c. c .before .before .clock-bus .kept .1 .1 .0)
+    (λ c. let e = c .before .before .clock-bus .ensures in (e .0, e .1 _ _ refl)))
