@@ -56,6 +56,18 @@ found : (n : ℕ) (f : Frame) (d : Device) (x address byte : ℕ)
 unfolding valueOf arrayValue
 found n f d x address byte c h = rw (later-mode n (d .controller), free-status n (d .controller) c h)
 
+-- any clock
+pub clock-step : (d : Device) (image s : List ℕ) (k : ℕ) (b : List ℕ) (a : DeviceClocked) (later c : List ℕ)
+    → 2 * k + 1 < length s
+    → k < length b
+    → a ≡ deviceClock d image (sampleAt s k)
+    → later ≡ imageAfter d image (sampleAt s k)
+    → c ≡ set b k (a .answer)
+    → Simulates s k (world d image) b (k + 1) (world (a .device) later) c
+unfolding onward answerTo
+clock-step d image s k b a later c h l e g z =
+    lands s k (k + 1) _ _ (a .answer ∷ []) b c (one s k (world d image) (world (a .device) later) (a .answer) h (rw (e, g)) (rw e)) (omega arith) (z ∙ put-set b k (a .answer) l)
+
 module _ (d : Device) (image s : List ℕ) (k : ℕ) (f : Frame) (b : List ℕ) where
   -- along idle samples, whatever falls due
   pub rest-step : (n m : ℕ) (c : List ℕ)
@@ -83,18 +95,6 @@ module _ (d : Device) (image s : List ℕ) (k : ℕ) (f : Frame) (b : List ℕ) 
   write-step n to c l r q z =
       let room = whole-room s (d .straps) 14 k to 12 q in
       lands s k (k + 12) _ _ (replicate 12 0) b c (whole-write d image s k to n f q l) (omega arith) (z ∙ put-filled b k 12)
-
-  -- any clock
-  pub clock-step : (n : ℕ) (a : DeviceClocked) (later c : List ℕ)
-      → 2 * k + 1 < length s
-      → k < length b
-      → a ≡ deviceClock (deviceLater n f d) (worldLater d image n f .image) (sampleAt s k)
-      → later ≡ imageAfter (deviceLater n f d) (worldLater d image n f .image) (sampleAt s k)
-      → c ≡ set b k (a .answer)
-      → Simulates s k (worldLater d image n f) b (k + 1) (world (a .device) later) c
-  unfolding onward answerTo
-  clock-step n a later c h l e g z =
-      lands s k (k + 1) _ _ (a .answer ∷ []) b c (one s k _ (world (a .device) later) (a .answer) h (rw (e, g)) (rw e)) (omega arith) (z ∙ put-set b k (a .answer) l)
 
   -- the bus alone: not at all
   pub alone-none : Alone d image s k f b k f b

@@ -276,19 +276,15 @@ fn stretch_clock(
     image: &mut [u8],
     stream: &[u8],
     answers: &mut [u8],
-    f: Frame,
-    behind: u32,
     at: usize,
     n: usize,
 ) -> Stretch
     requires { ⌜ Room d (now image) (now stream) (now answers) n ⌝ }
     requires { ⌜ at < n ⌝ }
-    requires { ⌜ soundOf (deviceLater behind f d) ≡ true ⌝ }
-    ensures { λ r. ⌜ Stretched (now (stream .entry)) at (worldLater d (now (image .entry)) behind f) (now (answers .entry))
+    ensures { λ r. ⌜ Stretched (now (stream .entry)) at (world d (now (image .entry))) (now (answers .entry))
         n (r .place) (world (r .device) (now (image .exit))) (now (answers .exit)) ⌝ }
 {
-    let e = device_later(d, image, f, behind);
-    let a = clock_device(e, image, sample_at(stream, at));
+    let a = clock_device(d, image, sample_at(stream, at));
     let device = a.device;
     answers[at] = a.answer;
     Stretch {
@@ -321,7 +317,8 @@ fn stretch_on(
     if is_whole_frame(stream, d.straps, 14, at, n, 12) {
         return stretch_write(d, image, stream, answers, f, behind, at, n);
     }
-    stretch_clock(d, image, stream, answers, f, behind, at, n)
+    let e = device_later(d, image, f, behind);
+    stretch_clock(e, image, stream, answers, at, n)
 }
 
 // The place from k on, n at most, up to which nothing is due in a controller.

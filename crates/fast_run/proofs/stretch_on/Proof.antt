@@ -20,6 +20,27 @@ stretch-write-requires c κs =
     let h = whole-room _ _ _ _ _ _ v in
     (z .pre .0, (omega (arith, z .pre), (z .pre .1 .1 .0, v)))
 
+stretch-clock-requires : tie.Need-stretch-clock-requires
+stretch-clock-requires c κs =
+    let e = c .before .before .before .before in
+    let z = e .before .before .before .before .before .before .before .before .before .before in
+    let m = z .pre .0 in (
+      record {
+        sound = rw (e .device-later .ensures .0) (z .pre .1 .1 .1);
+        whole = e .device-later .kept .1 .0 ∙ m .whole;
+        given = m .given;
+        wide = m .wide;
+        few = m .few;
+      },
+      z .pre .1 .0,
+    )
+
+returns-3 : tie.Need-returns-3
+returns-3 c =
+    let t = c .before .before .before .before in
+    let q = t .before .before .before .before .before .device-later .ensures in
+    rw (q .0, q .1) at (t .stretch-clock .ensures)
+
 pub stretch-on-spec : {M : Type 1} → statement M
 stretch-on-spec =
     tie.close
@@ -36,6 +57,7 @@ stretch-on-spec =
     (λ c. c .before .before .before .before .stretch-write .kept .1 .1 .1 .0)
     (λ c. c .before .before .before .before .stretch-write .ensures)
     (λ c κs. search needs)
-    (λ c. c .before .before .before .before .stretch-clock .kept .1 .0)
+    stretch-clock-requires
+    (λ c. search needs)
     (λ c. c .before .before .before .before .stretch-clock .kept .1 .1 .1 .0)
-    (λ c. c .before .before .before .before .stretch-clock .ensures))
+    returns-3)
