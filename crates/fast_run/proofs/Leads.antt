@@ -12,7 +12,7 @@ use Rattle.clock.specs.Fold.{World, onward, answerTo, through, answersTo}
 use Rattle.clock.proofs.Kept.{device-clock-sound}
 use Rattle.record.specs.Sample.{sampleAt}
 use Rattle.basics.specs.Bytes.{put}
-use Rattle.fast_run.specs.Stretch.{samplesFrom, Simulates}
+use Rattle.fast_run.specs.Stretch.{samplesFrom, Simulates, Stretched}
 use Rattle.record.proofs.Samples.{samples-cons}
 
 -- at place m with world v all that is still to come goes as at place k with world w, the answers between being these bytes
@@ -82,16 +82,17 @@ past k m a b h e =
     let x : m ≡ k + (m - k) = omega arith in
     rw x (sym (drop-drop (m - k) k a) ∙ ap (drop (m - k)) e ∙ drop-drop (m - k) k b)
 
-pub simulates-on : (s : List ℕ) (k l m : ℕ) (u v w : World) (first mid last : List ℕ)
-    → Simulates s k u first l v mid
-    → Simulates s l v mid m w last
-    → Simulates s k u first m w last
-simulates-on s k l m u v w first mid last a b =
-    record {
-      forward = omega (arith, a .forward, b .forward);
-      leads = b .leads ∙ a .leads;
-      told = b .told ∙ a .told;
-      beyond = b .beyond ∙ past l m mid first (b .forward) (a .beyond);
-      size = b .size ∙ a .size;
-      kept = λ h. b .kept (a .kept h);
-    }
+module _ {s : List ℕ} {k l m : ℕ} {u v w : World} {first mid last : List ℕ} (a : Simulates s k u first l v mid) where
+  pub simulates-on : Simulates s l v mid m w last → Simulates s k u first m w last
+  simulates-on b =
+      record {
+        forward = omega (arith, a .forward, b .forward);
+        leads = b .leads ∙ a .leads;
+        told = b .told ∙ a .told;
+        beyond = b .beyond ∙ past l m mid first (b .forward) (a .beyond);
+        size = b .size ∙ a .size;
+        kept = λ h. b .kept (a .kept h);
+      }
+
+  pub stretched-on : {n : ℕ} → Stretched s l v mid n m w last → Stretched s k u first n m w last
+  stretched-on b = record { further = omega (arith, a .forward, b .further); within = b .within; simulates = simulates-on (b .simulates) }

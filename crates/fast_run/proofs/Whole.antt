@@ -21,9 +21,9 @@ use Rattle.access.specs.Read.{isArray, arrayAddress, valueOf}
 use Rattle.access.specs.Write.{reachedOf}
 use Rattle.record.proofs.Samples.{Idle, idle-sample}
 use Rattle.clock.proofs.Eventless.{idle-silent}
-use Rattle.clock.specs.Fold.{world}
+use Rattle.clock.specs.Fold.{World, world}
 use Rattle.lookahead.specs.Lookahead.{isStart, allIdle, addressOver, addressAt, isFrameOver, endedFrame, wholeFrame, byteAt, readAnswers}
-use Rattle.fast_run.specs.Stretch.{deviceLater, worldLater}
+use Rattle.fast_run.specs.Stretch.{deviceLater, worldLater, writeFrame}
 use Rattle.fast_run.proofs.Leads.{Leads, none, one, join}
 use Rattle.fast_run.proofs.Apart.{silent, silent-answer, reads, reads-answer, writes, writes-answer}
 
@@ -293,15 +293,18 @@ module _ (d : Device) (image s : List ℕ) where
       elim (ask (isArray a)) [ yes i ↦ rw i | no i ↦ rw i ]
 
   -- a whole write, up to its twelfth clock
+  abbrev pub writtenWorld : ℕ → ℕ → World
+  writtenWorld k n =
+      world
+      (reachedOf (deviceLater (n + 12) (writeFrame s k) d) (sampleAt s (k + 11)) (addressAt s (k + 2)) (byteAt s k) .device)
+      (imageLater (n + 12) (d .controller) image)
+
   module _ (k to n : ℕ) (f : Frame) (t : wholeFrame s (d .straps) 14 k to 12 ≡ true) (e : 2 * to ≤ length s) where
     v : Whole s (d .straps) 14 k to 12
     v = whole s (d .straps) 14 k to 12 t
 
     abbrev pub writeAddress : ℕ
     writeAddress = addressAt s (k + 2)
-
-    abbrev pub written : Device
-    written = deviceLater (n + 12) (frame 2 12 (byteAt s k) writeAddress) d
 
     abbrev low : ℕ
     low = lines (sampleAt s (k + 10))
@@ -315,7 +318,7 @@ module _ (d : Device) (image s : List ℕ) where
         quietly (k + 10) (k + 11) (n + 10) (n + 11) (frame 2 10 0 writeAddress) (frame 2 11 low writeAddress) 0 (omega arith) (omega arith) (omega (arith, v .room)) (x .up) g refl refl
 
     acts : Leads s (k + 11) (worldLater d image (n + 11) (frame 2 11 low writeAddress)) (k + 12)
-        (world (reachedOf written (sampleAt s (k + 11)) writeAddress (byteAt s k) .device) (imageLater (n + 12) (d .controller) image)) (0 ∷ [])
+        (writtenWorld k n) (0 ∷ [])
     unfolding frameClock nextOf writeOn askedOf drivenOf byteAt
     acts =
         let p : k + 1 + 10 ≡ k + 11 = omega arith in
@@ -330,7 +333,7 @@ module _ (d : Device) (image s : List ℕ) where
         ∙ ap drivenOf (reached-frame _ (sampleAt s (k + 11)) writeAddress (byteAt s k))))
 
     pub whole-write : Leads s k (worldLater d image n f) (k + 12)
-        (world (reachedOf written (sampleAt s (k + 11)) writeAddress (byteAt s k) .device) (imageLater (n + 12) (d .controller) image)) (replicate 12 0)
+        (writtenWorld k n) (replicate 12 0)
     whole-write =
         join s k (k + 10) (k + 12) _ _ _ (replicate 10 0) (0 ∷ 0 ∷ []) (head 14 2 write-kind k to 12 n f v (omega arith) e)
         (join s (k + 10) (k + 11) (k + 12) _ _ _ (0 ∷ []) (0 ∷ []) lower acts)

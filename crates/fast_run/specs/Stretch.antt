@@ -1,16 +1,18 @@
 -- How far a run through a stream has come. Assumes nothing.
-use Prim.Native.Nat.{ℕ, _*_, _≤_}
+use Prim.Native.Nat.{ℕ, _+_, _-_, _*_, _≤_, _<_}
 use mathlib.Core.Path.{_≡_}
 use mathlib.Core.Bool.{true}
 use mathlib.Core.List.{List, _++_}
-use lib.ListN.{length, take, drop}
+use lib.ListN.{length, getD, take, drop}
 use Rattle.record.specs.declared.Frame.{Frame}
 use Rattle.record.specs.declared.Device.{Device}
-use Rattle.record.specs.Record.{device}
+use Rattle.record.specs.Record.{device, frame}
 use Rattle.soundness.specs.Sound.{soundOf}
-use Rattle.fast_forward.specs.Forward.{controllerLater, imageLater}
+use Rattle.fast_forward.specs.Forward.{controllerLater, imageLater, controllerFree}
+use Rattle.access.specs.Read.{arrayAddress, valueOf}
+use Rattle.lookahead.specs.Lookahead.{addressAt, byteAt}
 use Rattle.clock.specs.Fold.{World, world, through, answersTo}
-use Rattle.record.specs.Sample.{samples}
+use Rattle.record.specs.Sample.{samples, sampleAt}
 
 -- a device n clocks later with another frame, nothing having been said to its controller
 abbrev pub deviceLater : ℕ → Frame → Device → Device
@@ -33,3 +35,37 @@ pub record Simulates (s : List ℕ) (k : ℕ) (w : World) (buffer : List ℕ) (m
   pub beyond : drop m later ≡ drop m buffer
   pub size : length later ≡ length buffer
   pub kept : soundOf (w .device) ≡ true → soundOf (v .device) ≡ true
+
+-- the same of a place m further on, n at most
+pub record Stretched (s : List ℕ) (k : ℕ) (w : World) (buffer : List ℕ) (n m : ℕ) (v : World) (later : List ℕ) : Type 0 where
+  pub further : k < m
+  pub within : m ≤ n
+  pub simulates : Simulates s k w buffer m v later
+
+-- what every step asks for: a sound device, a whole image, the samples up to place n, and room for the answers to them
+pub record Room (d : Device) (image s answers : List ℕ) (n : ℕ) : Type 0 where
+  pub sound : soundOf d ≡ true
+  pub whole : length image ≡ 1048576
+  pub given : 2 * n ≤ length s
+  pub wide : n ≤ length answers
+  pub few : n ≤ 65536
+
+-- the bus has gone alone from place k with frame f to place m with frame g, however far the controller has counted, so
+-- long as nothing falls due in it on the way
+pub record Alone (d : Device) (image s : List ℕ) (k : ℕ) (f : Frame) (buffer : List ℕ) (m : ℕ) (g : Frame) (later : List ℕ) : Type 0 where
+  pub forward : k ≤ m
+  pub size : length later ≡ length buffer
+  pub goes : (n : ℕ) → n + (m - k) ≤ controllerFree (d .controller)
+      → Simulates s k (worldLater d image n f) buffer m (worldLater d image (n + (m - k)) g) later
+
+-- the byte that a whole read from place k on finds, while nothing is due, and the frame after its eighteenth clock
+unfoldable pub readByte : Device → List ℕ → List ℕ → ℕ → ℕ
+readByte d image s k =
+    valueOf d (sampleAt s (k + 14)) (addressAt s (k + 2)) (getD image (arrayAddress (addressAt s (k + 2))) 0)
+
+abbrev pub readFrame : Device → List ℕ → List ℕ → ℕ → Frame
+readFrame d image s k = frame 1 18 (readByte d image s k) (addressAt s (k + 2))
+
+-- the frame after the twelfth clock of a whole write from place k on
+abbrev pub writeFrame : List ℕ → ℕ → Frame
+writeFrame s k = frame 2 12 (byteAt s k) (addressAt s (k + 2))

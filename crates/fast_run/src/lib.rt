@@ -21,21 +21,26 @@ use lookahead::skip_idle;
 use lookahead::stays_idle;
 use operation::active_of;
 use operation::is_still;
+use record::Controller;
 use record::Device;
 use record::Frame;
 use record::is_reset;
 use record::sample_at;
 ghost use mathlib.Core.Path.{_≡_};
-ghost use mathlib.Core.Bool.{true};
-ghost use mathlib.Core.List.{_++_};
-ghost use Prim.Native.Nat.{_-_, _*_, _/_, _≤_, _<_};
+ghost use mathlib.Core.Bool.{true, false};
+ghost use mathlib.Core.List.{List, _++_};
+ghost use Prim.Native.Nat.{ℕ, _+_, _-_, _*_, _/_, _≤_, _<_};
 ghost use lib.ListN.{length, drop};
-ghost use Rattle.soundness.specs.Sound.{soundOf};
+ghost use Rattle.record.specs.declared.Device.{Device};
+ghost use Rattle.soundness.specs.Sound.{controllerFits, soundOf};
 ghost use Rattle.fast_forward.specs.Forward.{imageLater, controllerFree};
+ghost use Rattle.bus.specs.declared.Asked.the-variants.{Nothing};
+ghost use Rattle.bus.specs.Frames.{askedOf};
+ghost use Rattle.lookahead.specs.Lookahead.{staysIdle, wholeFrame, readAnswers};
 ghost use Rattle.clock.specs.Fold.{world, through, answersTo};
-ghost use Rattle.record.specs.Sample.{samples};
-ghost use Rattle.basics.specs.Numbers.{lesser};
-ghost use Rattle.fast_run.specs.Stretch.{deviceLater, worldLater, Simulates};
+ghost use Rattle.record.specs.Sample.{samples, isReset, sampleAt};
+ghost use Rattle.basics.specs.Bytes.{put};
+ghost use Rattle.fast_run.specs.Stretch.{deviceLater, worldLater, Simulates, Stretched, Room, Alone, readFrame};
 
 // How far the bus has come alone: the place of the next sample, and the frame then.
 struct BusAlone {
@@ -43,8 +48,111 @@ struct BusAlone {
     pub frame: Frame,
 }
 
-// The bus alone, while nothing is due in the controller: idle stretches and whole reads at once, other clocks one by one.
-// It stops before a reset, before a clock on which the frame asks for something, and before a whole write.
+// The answers to a whole read while nothing is due, and the frame after it.
+fn take_read(d: Device, image: &[u8], stream: &[u8], answers: &mut [u8], k: usize) -> Frame
+    requires { ⌜ length (now image) ≡ 1048576 ⌝ }
+    requires { ⌜ 2 * (k + 18) ≤ length (now stream) ⌝ }
+    requires { ⌜ k + 18 ≤ length (now answers) ⌝ }
+    ensures { λ r. ⌜ (r ≡ readFrame d (now (image .entry)) (now (stream .entry)) k)
+        × (now (answers .exit) ≡ put (now (answers .entry)) k (readAnswers (r .byte))) ⌝ }
+{
+    let address = address_at(stream, k + 2);
+    let at = array_address(address) as usize;
+    let byte = value(d, sample_at(stream, k + 14), address, image[at]);
+    answer_read(answers, k, byte);
+    Frame {
+        kind: 1,
+        clock: 18,
+        byte,
+        address,
+    }
+}
+
+// Whether the bus stops before a sample: it resets, or a whole write begins with it.
+fn stops_before(stream: &[u8], straps: u8, k: usize, to: usize) -> bool
+    requires { ⌜ k < to ⌝ }
+    requires { ⌜ 2 * to ≤ length (now stream) ⌝ }
+    ensures { λ r. ⌜ (r ≡ false → isReset (sampleAt (now (stream .entry)) k) ≡ false) ⌝ }
+{
+    if is_reset(sample_at(stream, k)) {
+        return true;
+    }
+    is_whole_frame(stream, straps, 14, k, to, 12)
+}
+
+// Whether a frame asks for nothing.
+fn is_silent(f: Frame) -> bool
+    ensures { λ r. ⌜ (r ≡ true → askedOf f ≡ Nothing) ⌝ }
+{
+    match ask(f) {
+        Asked::Nothing => true,
+        Asked::Read(_) => false,
+        Asked::Write(_, _) => false,
+    }
+}
+
+// One clock of the bus alone, or none: it stops before a reset, before a whole write, and before a clock on which the frame
+// asks for something.
+fn clock_bus(
+    straps: u8,
+    stream: &[u8],
+    answers: &mut [u8],
+    f: Frame,
+    k: usize,
+    to: usize,
+) -> BusAlone
+    requires { ⌜ k < to ⌝ }
+    requires { ⌜ 2 * to ≤ length (now stream) ⌝ }
+    requires { ⌜ to ≤ length (now answers) ⌝ }
+    ensures { λ r. ⌜ (r .place ≤ to)
+        × ((d : Device) (image : List ℕ) → d .straps ≡ straps
+        → Alone d image (now (stream .entry)) k f (now (answers .entry)) (r .place) (r .frame) (now (answers .exit))) ⌝ }
+{
+    if stops_before(stream, straps, k, to) {
+        return BusAlone { place: k, frame: f };
+    }
+    let next = clock_frame(straps, f, sample_at(stream, k));
+    if is_silent(next) {
+        answers[k] = drive(next);
+        return BusAlone {
+            place: k + 1,
+            frame: next,
+        };
+    }
+    BusAlone { place: k, frame: f }
+}
+
+// A step of the bus alone: an idle stretch or a whole read at once, or else a clock or none.
+fn step_bus(
+    d: Device,
+    image: &[u8],
+    stream: &[u8],
+    answers: &mut [u8],
+    f: Frame,
+    k: usize,
+    to: usize,
+) -> BusAlone
+    requires { ⌜ Room d (now image) (now stream) (now answers) to ⌝ }
+    requires { ⌜ k < to ⌝ }
+    ensures { λ r. ⌜ (r .place ≤ to)
+        × Alone d (now (image .entry)) (now (stream .entry)) k f (now (answers .entry)) (r .place) (r .frame) (now (answers .exit)) ⌝ }
+{
+    if stays_idle(f, sample_at(stream, k)) {
+        return BusAlone {
+            place: skip_idle(stream, answers, k, to),
+            frame: end_frame(f),
+        };
+    }
+    if is_whole_frame(stream, d.straps, 13, k, to, 18) {
+        return BusAlone {
+            place: k + 18,
+            frame: take_read(d, image, stream, answers, k),
+        };
+    }
+    clock_bus(d.straps, stream, answers, f, k, to)
+}
+
+// The bus alone, while nothing is due in the controller, step by step until one goes no further.
 fn run_bus_alone(
     d: Device,
     image: &[u8],
@@ -53,11 +161,8 @@ fn run_bus_alone(
     from: usize,
     to: usize,
 ) -> BusAlone
-    requires { ⌜ soundOf d ≡ true ⌝ }
-    requires { ⌜ length (now image) ≡ 1048576 ⌝ }
+    requires { ⌜ Room d (now image) (now stream) (now answers) to ⌝ }
     requires { ⌜ from ≤ to ⌝ }
-    requires { ⌜ 2 * to ≤ length (now stream) ⌝ }
-    requires { ⌜ to ≤ length (now answers) ⌝ }
     requires { ⌜ to - from ≤ controllerFree (d .controller) ⌝ }
     ensures { λ r. ⌜ (r .place ≤ to)
         × Simulates (now (stream .entry)) from (world d (now (image .entry))) (now (answers .entry))
@@ -66,46 +171,13 @@ fn run_bus_alone(
     let mut f = d.frame;
     let mut k = from;
     while k < to {
-        let sample = sample_at(stream, k);
-        if stays_idle(f, sample) {
-            k = skip_idle(stream, answers, k, to);
-            f = end_frame(f);
-        } else {
-            if is_whole_frame(stream, d.straps, 13, k, to, 18) {
-                let address = address_at(stream, k + 2);
-                let at = array_address(address) as usize;
-                let byte = value(d, sample_at(stream, k + 14), address, image[at]);
-                answer_read(answers, k, byte);
-                f = Frame {
-                    kind: 1,
-                    clock: 18,
-                    byte,
-                    address,
-                };
-                k += 18;
-            } else {
-                if is_whole_frame(stream, d.straps, 14, k, to, 12) {
-                    return BusAlone { place: k, frame: f };
-                }
-                if is_reset(sample) {
-                    return BusAlone { place: k, frame: f };
-                }
-                let next = clock_frame(d.straps, f, sample);
-                match ask(next) {
-                    Asked::Nothing => {
-                        answers[k] = drive(next);
-                        f = next;
-                        k += 1;
-                    }
-                    Asked::Read(_) => {
-                        return BusAlone { place: k, frame: f };
-                    }
-                    Asked::Write(_, _) => {
-                        return BusAlone { place: k, frame: f };
-                    }
-                }
-            }
+        let t = step_bus(d, image, stream, answers, f, k, to);
+        if t.place == k {
+            return t;
         }
+        let next = t.frame;
+        f = next;
+        k = t.place;
     }
     BusAlone { place: k, frame: f }
 }
@@ -137,6 +209,128 @@ struct Stretch {
     pub place: usize,
 }
 
+// An idle stretch, with all that falls due in it. The controller is `behind` the bus by so many clocks, as in the two below.
+fn stretch_idle(
+    d: Device,
+    image: &mut [u8],
+    stream: &[u8],
+    answers: &mut [u8],
+    f: Frame,
+    behind: u32,
+    at: usize,
+    n: usize,
+) -> Stretch
+    requires { ⌜ Room d (now image) (now stream) (now answers) n ⌝ }
+    requires { ⌜ at < n ⌝ }
+    requires { ⌜ behind ≤ at ⌝ }
+    requires { ⌜ staysIdle f (sampleAt (now stream) at) ≡ true ⌝ }
+    ensures { λ r. ⌜ Stretched (now (stream .entry)) at (worldLater d (now (image .entry)) behind f) (now (answers .entry))
+        n (r .place) (world (r .device) (now (image .exit))) (now (answers .exit)) ⌝ }
+{
+    let place = skip_idle(stream, answers, at, n);
+    Stretch {
+        device: device_later(d, image, end_frame(f), behind + ((place - at) as u32)),
+        place,
+    }
+}
+
+// A whole write, up to the clock on which it acts.
+fn stretch_write(
+    d: Device,
+    image: &mut [u8],
+    stream: &[u8],
+    answers: &mut [u8],
+    f: Frame,
+    behind: u32,
+    at: usize,
+    n: usize,
+) -> Stretch
+    requires { ⌜ Room d (now image) (now stream) (now answers) n ⌝ }
+    requires { ⌜ at + 12 ≤ n ⌝ }
+    requires { ⌜ behind ≤ at ⌝ }
+    requires { ⌜ wholeFrame (now stream) (d .straps) 14 at n 12 ≡ true ⌝ }
+    ensures { λ r. ⌜ Stretched (now (stream .entry)) at (worldLater d (now (image .entry)) behind f) (now (answers .entry))
+        n (r .place) (world (r .device) (now (image .exit))) (now (answers .exit)) ⌝ }
+{
+    let byte = byte_at(stream, at);
+    let address = address_at(stream, at + 2);
+    let last = Frame {
+        kind: 2,
+        clock: 12,
+        byte,
+        address,
+    };
+    let e = device_later(d, image, last, behind + 12);
+    let r = reach(e, sample_at(stream, at + 11), address, byte);
+    let device = r.device;
+    fill(answers, at, 12, 0);
+    Stretch {
+        device,
+        place: at + 12,
+    }
+}
+
+// One clock.
+fn stretch_clock(
+    d: Device,
+    image: &mut [u8],
+    stream: &[u8],
+    answers: &mut [u8],
+    at: usize,
+    n: usize,
+) -> Stretch
+    requires { ⌜ Room d (now image) (now stream) (now answers) n ⌝ }
+    requires { ⌜ at < n ⌝ }
+    ensures { λ r. ⌜ Stretched (now (stream .entry)) at (world d (now (image .entry))) (now (answers .entry))
+        n (r .place) (world (r .device) (now (image .exit))) (now (answers .exit)) ⌝ }
+{
+    let a = clock_device(d, image, sample_at(stream, at));
+    let device = a.device;
+    answers[at] = a.answer;
+    Stretch {
+        device,
+        place: at + 1,
+    }
+}
+
+// The next stretch behind what the bus did alone: one of the three.
+fn stretch_on(
+    d: Device,
+    image: &mut [u8],
+    stream: &[u8],
+    answers: &mut [u8],
+    f: Frame,
+    behind: u32,
+    at: usize,
+    n: usize,
+) -> Stretch
+    requires { ⌜ Room d (now image) (now stream) (now answers) n ⌝ }
+    requires { ⌜ at < n ⌝ }
+    requires { ⌜ behind ≤ at ⌝ }
+    requires { ⌜ soundOf (deviceLater behind f d) ≡ true ⌝ }
+    ensures { λ r. ⌜ Stretched (now (stream .entry)) at (worldLater d (now (image .entry)) behind f) (now (answers .entry))
+        n (r .place) (world (r .device) (now (image .exit))) (now (answers .exit)) ⌝ }
+{
+    if stays_idle(f, sample_at(stream, at)) {
+        return stretch_idle(d, image, stream, answers, f, behind, at, n);
+    }
+    if is_whole_frame(stream, d.straps, 14, at, n, 12) {
+        return stretch_write(d, image, stream, answers, f, behind, at, n);
+    }
+    let e = device_later(d, image, f, behind);
+    stretch_clock(e, image, stream, answers, at, n)
+}
+
+// The place from k on, n at most, up to which nothing is due in a controller.
+fn quiet_until(c: Controller, k: usize, n: usize) -> usize
+    requires { ⌜ controllerFits c ≡ true ⌝ }
+    requires { ⌜ k ≤ n ⌝ }
+    ensures { λ r. ⌜ (k ≤ r) × (r ≤ n) × (r - k ≤ controllerFree c) ⌝ }
+{
+    let ahead = controller_free(c) as usize;
+    k + lesser(n - k, ahead)
+}
+
 // The samples from place k on, as many as are known by looking ahead: what the bus does alone, and then an idle stretch with
 // all that falls due in it, or a whole write, or else one clock.
 fn run_stretch(
@@ -147,59 +341,21 @@ fn run_stretch(
     k: usize,
     n: usize,
 ) -> Stretch
-    requires { ⌜ soundOf d ≡ true ⌝ }
-    requires { ⌜ length (now image) ≡ 1048576 ⌝ }
+    requires { ⌜ Room d (now image) (now stream) (now answers) n ⌝ }
     requires { ⌜ k < n ⌝ }
-    requires { ⌜ 2 * n ≤ length (now stream) ⌝ }
-    requires { ⌜ n ≤ length (now answers) ⌝ }
-    requires { ⌜ n ≤ 65536 ⌝ }
-    ensures { λ r. ⌜ (k < r .place) × (r .place ≤ n)
-        × Simulates (now (stream .entry)) k (world d (now (image .entry))) (now (answers .entry))
-        (r .place) (world (r .device) (now (image .exit))) (now (answers .exit)) ⌝ }
+    ensures { λ r. ⌜ Stretched (now (stream .entry)) k (world d (now (image .entry))) (now (answers .entry))
+        n (r .place) (world (r .device) (now (image .exit))) (now (answers .exit)) ⌝ }
 {
     let c = d.controller;
-    let ahead = controller_free(c) as usize;
-    let g = run_bus_alone(d, image, stream, answers, k, k + lesser(n - k, ahead));
+    let g = run_bus_alone(d, image, stream, answers, k, quiet_until(c, k, n));
     let f = g.frame;
     let at = g.place;
+    let behind = (at - k) as u32;
     if at < n {
-        let sample = sample_at(stream, at);
-        if stays_idle(f, sample) {
-            let place = skip_idle(stream, answers, at, n);
-            return Stretch {
-                device: device_later(d, image, end_frame(f), (place - k) as u32),
-                place,
-            };
-        }
-        if is_whole_frame(stream, d.straps, 14, at, n, 12) {
-            let byte = byte_at(stream, at);
-            let address = address_at(stream, at + 2);
-            let last = Frame {
-                kind: 2,
-                clock: 12,
-                byte,
-                address,
-            };
-            let e = device_later(d, image, last, (at + 12 - k) as u32);
-            let r = reach(e, sample_at(stream, at + 11), address, byte);
-            let device = r.device;
-            fill(answers, at, 12, 0);
-            return Stretch {
-                device,
-                place: at + 12,
-            };
-        }
-        let e = device_later(d, image, f, (at - k) as u32);
-        let a = clock_device(e, image, sample);
-        let device = a.device;
-        answers[at] = a.answer;
-        return Stretch {
-            device,
-            place: at + 1,
-        };
+        return stretch_on(d, image, stream, answers, f, behind, at, n);
     }
     Stretch {
-        device: device_later(d, image, f, (at - k) as u32),
+        device: device_later(d, image, f, behind),
         place: at,
     }
 }

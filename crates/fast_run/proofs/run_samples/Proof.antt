@@ -30,13 +30,21 @@ run-stretch-requires c κs =
     let w = c .before .before .before in
     let z = w .before .before .before .before in
     let m = w .loop .inv in
-    let i = c .before .before .loop-test in
-    (m .2, (m .1 ∙ z .pre .1 .0, (omega (arith, i), (omega arith, (omega (arith, m .3 .size, z .pre .1 .1 .1), omega (arith, z .pre .1 .1 .0))))))
+    let i = c .before .before .loop-test in (
+      record {
+        sound = m .2;
+        whole = m .1 ∙ z .pre .1 .0;
+        given = omega arith;
+        wide = omega (arith, m .3 .size, z .pre .1 .1 .1);
+        few = omega (arith, z .pre .1 .1 .0);
+      },
+      omega (arith, i),
+    )
 
 loop-less : tie.Need-loop-less Inv-loop μ-loop
 loop-less c =
     let x = c .before .before .before .before .before .run-stretch .ensures in
-    omega (arith, x .0, x .1)
+    omega (arith, x .further, x .within)
 
 loop-again : tie.Need-loop-again Inv-loop μ-loop
 loop-again c =
@@ -44,7 +52,8 @@ loop-again c =
     let w = t .before .before .before .before in
     let x = t .run-stretch .ensures in
     let m = w .loop .inv in
-    (x .1, omega (arith, t .run-stretch .kept .1 .0, m .1), x .2 .kept (m .2), simulates-on _ _ _ _ _ _ _ _ _ _ (m .3) (x .2))
+    let q = x .simulates in
+    (x .within, omega (arith, t .run-stretch .kept .1 .0, m .1), q .kept (m .2), simulates-on (m .3) q)
 
 same-length : tie.Need-same-length Inv-loop μ-loop
 same-length c = c .before .loop .inv .1
