@@ -28,7 +28,8 @@ use Rattle.command.specs.declared.Action.the-variants.{Array, Status, Si
 use Rattle.permission.specs.declared.Judgement.{Judgement}
 use Rattle.permission.specs.declared.Judgement.the-variants.{Granted, Voltage, Pin, Lock, Suspended}
 use Rattle.command.specs.Commands.{rowOf, columnOf, actionAt, actionOf, acted}
-use Rattle.permission.specs.Permission.{intoSuspended, judged, pinLow}
+use Rattle.permission.specs.Permission.{intoSuspended, judged}
+use Rattle.permission.proofs.Granted.{granted}
 use Rattle.command.specs.Setup.{acceptedOf, starting, failing, answered, unconfirmed, writtenOf}
 
 -- what a condition says of the operations
@@ -310,32 +311,6 @@ accepted-outer ts setup address byte t a = pick (ask (isAbsent (acceptedOf ts se
     pick (yes x) = rw x
     pick (no x) = rw x (also _ below (also _ (accepted-fits ts setup address byte t a) none))
 
--- what is granted is no program into the suspended block
-abbrev isGranted : Judgement → Bool
-isGranted Granted = true
-isGranted Voltage = false
-isGranted Pin = false
-isGranted Lock = false
-isGranted Suspended = false
-
-granted-apart : (setup : ℕ) (outer : Operation) (sample lock address : ℕ) → judged setup outer sample lock address ≡ Granted → intoSuspended setup outer address ≡ false
-unfolding judged
-granted-apart setup outer sample lock address e = pick (ask (eqb (sample / 512 % 4) 0)) (ask (pinLow sample (blockOf address))) (ask (eqb (lock % 2) 1)) (ask (intoSuspended setup outer address))
-  where
-    g : isGranted (judged setup outer sample lock address) ≡ true
-    g = ap isGranted e
-
-    pick : Answer (eqb (sample / 512 % 4) 0)
-        → Answer (pinLow sample (blockOf address))
-        → Answer (eqb (lock % 2) 1)
-        → Answer (intoSuspended setup outer address)
-        → intoSuspended setup outer address ≡ false
-    pick v p l (no s) = s
-    pick (yes v) p l (yes s) = clash (rw v at g)
-    pick (no v) (yes p) l (yes s) = clash (rw (v, p) at g)
-    pick (no v) (no p) (yes l) (yes s) = clash (rw (v, p, l) at g)
-    pick (no v) (no p) (no l) (yes s) = clash (rw (v, p, l, s) at g)
-
 -- an erase that is suspended, told from what it is not
 erase-kind : (o : Operation) → outerFits o ≡ true → isAbsent o ≡ false → isProgram o ≡ false → isErase o ≡ true
 unfolding outerFits
@@ -399,7 +374,7 @@ answered-kept : (j : Judgement) (c : Controller) (ts : Times) (sample lock addre
     → eqb (c .setup) 0 ≡ false
     → controllerFits (answered j c (acceptedOf ts (c .setup) address byte)) ≡ true
 answered-kept Granted c ts sample lock address byte g e t a s =
-    starting-kept (conditionOf c) c ts address byte (view c) refl e t a s (granted-apart (c .setup) (c .outer) sample lock address g)
+    starting-kept (conditionOf c) c ts address byte (view c) refl e t a s (granted (c .setup) (c .outer) sample lock address g .apart)
 answered-kept Voltage c ts sample lock address byte g e t a s = failing-kept c 0x08 bit-3 e
 answered-kept Pin c ts sample lock address byte g e t a s = failing-kept c 0x02 bit-1 e
 answered-kept Lock c ts sample lock address byte g e t a s = failing-kept c 0x02 bit-1 e

@@ -32,6 +32,7 @@ use Rattle.permission.specs.declared.Judgement.{Judgement}
 use Rattle.permission.specs.declared.Judgement.the-variants.{Granted, Voltage, Pin, Lock, Suspended}
 use Rattle.command.specs.Commands.{acted, actionOf}
 use Rattle.permission.specs.Permission.{pinLow, intoSuspended, judged}
+use Rattle.permission.proofs.Granted.{Allowed, granted}
 use Rattle.command.specs.Setup.{acceptedOf, starting, failing, answered, unconfirmed, writtenOf}
 use Rattle.command.proofs.Kept.{View, ready, running, pausing, program-suspended, erase-suspended, within, view, refuse, accepted-fits}
 use Rattle.demands.specs.History.{isOn, opOf, allowed, erased, whole}
@@ -107,13 +108,6 @@ unfolding failing
 fails bits b sample locks c = equal b sample locks c _ refl refl refl
 
 -- what was granted was allowed
-abbrev isGranted : Judgement → Bool
-isGranted Granted = true
-isGranted Voltage = false
-isGranted Pin = false
-isGranted Lock = false
-isGranted Suspended = false
-
 one : (n : ℕ) → n < 2 → (n ≡ 0 → ⊥) → n ≡ 1
 one n h z = omega arith
 
@@ -126,30 +120,23 @@ zero-of n h z = omega arith
 low : (n : ℕ) → n < 2 → eqb n 1 ≡ false → eqb n 0 ≡ true
 low n h e = let z = eqb-false n 1 e in eq-eqb n 0 (zero-of n h z)
 
-granted : (setup : ℕ) (outer : Operation) (sample : ℕ) (locks : List ℕ) (address : ℕ)
+granted-allowed : (setup : ℕ) (outer : Operation) (sample : ℕ) (locks : List ℕ) (address : ℕ)
     → judged setup outer sample (getD locks (blockOf address) 0) address ≡ Granted
     → allowed (blockOf address) sample locks ≡ true
-unfolding judged allowed pinLow
-granted setup outer sample locks address e = pick (ask (eqb (voltage sample) 0)) (ask (eqb (blockOf address) 15)) (ask (eqb (tbl sample) 0)) (ask (eqb (wp sample) 0)) (ask (eqb (getD locks (blockOf address) 0 % 2) 1))
+unfolding allowed pinLow
+granted-allowed setup outer sample locks address e = pick (ask (eqb (blockOf address) 15))
   where
-    g : isGranted (judged setup outer sample (getD locks (blockOf address) 0) address) ≡ true
-    g = ap isGranted e
+    a : Allowed setup outer sample (getD locks (blockOf address) 0) address
+    a = granted setup outer sample (getD locks (blockOf address) 0) address e
 
-    pick : Answer (eqb (voltage sample) 0)
-        → Answer (eqb (blockOf address) 15)
-        → Answer (eqb (tbl sample) 0)
-        → Answer (eqb (wp sample) 0)
-        → Answer (eqb (getD locks (blockOf address) 0 % 2) 1)
-        → allowed (blockOf address) sample locks ≡ true
-    pick (yes v) k t w l = clash (rw v at g)
-    pick (no v) (yes k) (yes t) w l = clash (rw (v, k, t) at g)
-    pick (no v) (no k) t (yes w) l = clash (rw (v, k, w) at g)
-    pick (no v) (yes k) (no t) w (yes l) = clash (rw (v, k, t, l) at g)
-    pick (no v) (no k) t (no w) (yes l) = clash (rw (v, k, w, l) at g)
-    pick (no v) (yes k) (no t) w (no l) =
-        rw (v, k) (also _ refl (also _ (high (tbl sample) (omega arith) t) (also _ (low (getD locks (blockOf address) 0 % 2) (omega arith) l) none)))
-    pick (no v) (no k) t (no w) (no l) =
-        rw (v, k) (also _ refl (also _ (high (wp sample) (omega arith) w) (also _ (low (getD locks (blockOf address) 0 % 2) (omega arith) l) none)))
+    lock : eqb (getD locks (blockOf address) 0 % 2) 0 ≡ true
+    lock = low (getD locks (blockOf address) 0 % 2) (omega arith) (a .unlocked)
+
+    pick : Answer (eqb (blockOf address) 15) → allowed (blockOf address) sample locks ≡ true
+    pick (yes k) =
+        rw (a .powered, k) (also _ refl (also _ (high (tbl sample) (omega arith) (rw k at (a .pin-high))) (also _ lock none)))
+    pick (no k) =
+        rw (a .powered, k) (also _ refl (also _ (high (wp sample) (omega arith) (rw k at (a .pin-high))) (also _ lock none)))
 
 -- a fill of the whole block
 filled-whole : (n v : ℕ) (x : List ℕ) → length x ≡ n → filled x 0 n v ≡ replicate n v
@@ -203,7 +190,7 @@ module _ (b sample : ℕ) (locks : List ℕ) (c : Controller) (ts : Times) (addr
 
   permit : eqb (blockOf address) b ≡ true → allowed b sample locks ≡ true
   permit x =
-      ap (λ (k : ℕ). allowed k sample locks) (sym (eqb-true (blockOf address) b x)) ∙ granted (c .setup) (c .outer) sample locks address g
+      ap (λ (k : ℕ). allowed k sample locks) (sym (eqb-true (blockOf address) b x)) ∙ granted-allowed (c .setup) (c .outer) sample locks address g
 
   side : isOn b (c .inner) ≡ false
   side = off-absent b (c .inner) i

@@ -17,7 +17,7 @@ use Rattle.effect.specs.declared.Effect.the-variants.{Nothing}
 use Rattle.soundness.specs.Sound.{counts, leftFits, stateFits, operationFits}
 use Rattle.operation.specs.Clock.{pausedOf, operationClocked, operationClock}
 use Rattle.operation.proofs.Facts.{fits}
-use Rattle.fast_forward.specs.Forward.{operationFree, operationLater}
+use Rattle.fast_forward.specs.Forward.{operationBeforeDue, operationLater}
 
 least : (c : Clocks) (m : Micros) → counts c m ≡ true → 1 ≤ c .0
 unfolding counts
@@ -41,8 +41,8 @@ pub record Free (n : ℕ) (o : Operation) : Type 0 where
   pub left : n < o .left .0
   pub pause : isPausing o ≡ true → n < o .pause .0
 
-pub free-for : (n : ℕ) (o : Operation) → operationFits o ≡ true → n ≤ operationFree o → Free n o
-unfolding operationFree
+pub free-for : (n : ℕ) (o : Operation) → operationFits o ≡ true → n ≤ operationBeforeDue o → Free n o
+unfolding operationBeforeDue
 free-for n o e h = pick (ask (isPausing o)) (ask (ltb (o .pause .0) (o .left .0)))
   where
     l : 1 ≤ o .left .0

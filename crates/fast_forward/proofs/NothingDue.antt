@@ -14,7 +14,7 @@ use Rattle.status.specs.Status.{conditionOf, statusOf}
 use Rattle.soundness.specs.Sound.{controllerFits}
 use Rattle.operation.specs.Clock.{active, isStill, marksAfter, replaced, controllerClocked, controllerClock}
 use Rattle.operation.proofs.Facts.{active-fits, moving}
-use Rattle.fast_forward.specs.Forward.{controllerLater, imageLater, forwarding, controllerFree, operationLater}
+use Rattle.fast_forward.specs.Forward.{controllerLater, imageLater, forwarding, controllerBeforeDue, operationLater}
 use Rattle.fast_forward.proofs.Laws.{still-later}
 use Rattle.fast_forward.proofs.Free.{Free, free-for, free-clock, free-less, free-one, later-none, later-more}
 use Rattle.fast_forward.proofs.Replaced.{replaced-same, active-of, clocked}
@@ -74,18 +74,18 @@ later-status n c = pick (ask (isAbsent (c .inner)))
     pick (yes i) = rw (i, i)
     pick (no i) = rw (i, i)
 
-pub only-counts-active : (n : ℕ) (c : Controller) → controllerFits c ≡ true → n ≤ controllerFree c → isStill (active c) ≡ false → OnlyCounts n c (active c) (c .marks)
-unfolding controllerFree
+pub only-counts-active : (n : ℕ) (c : Controller) → controllerFits c ≡ true → n ≤ controllerBeforeDue c → isStill (active c) ≡ false → OnlyCounts n c (active c) (c .marks)
+unfolding controllerBeforeDue
 only-counts-active n c e h s = only-counts n c (active c) (c .marks) s (free-for n (active c) (active-fits c e (moving (active c) s)) (rw s at h))
 
-pub free-image : (n : ℕ) (c : Controller) (image : List ℕ) → controllerFits c ≡ true → n ≤ controllerFree c → imageLater n c image ≡ image
+pub free-image : (n : ℕ) (c : Controller) (image : List ℕ) → controllerFits c ≡ true → n ≤ controllerBeforeDue c → imageLater n c image ≡ image
 free-image n c image e h = pick (ask (isStill (active c)))
   where
     pick : Answer (isStill (active c)) → imageLater n c image ≡ image
     pick (yes s) = still-later n c image s .1
     pick (no s) = rw (replaced-same c) at (only-counts-active n c e h s .array image)
 
-pub free-status : (n : ℕ) (c : Controller) → controllerFits c ≡ true → n ≤ controllerFree c → statusOf (controllerLater n c) ≡ statusOf c
+pub free-status : (n : ℕ) (c : Controller) → controllerFits c ≡ true → n ≤ controllerBeforeDue c → statusOf (controllerLater n c) ≡ statusOf c
 free-status n c e h = pick (ask (isStill (active c)))
   where
     pick : Answer (isStill (active c)) → statusOf (controllerLater n c) ≡ statusOf c

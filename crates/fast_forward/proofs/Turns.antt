@@ -18,7 +18,7 @@ use Rattle.operation.specs.Clock.{active, isStill, operationClock, marksAfter, 
 use Rattle.operation.proofs.Facts.{active-fits, moving}
 use Rattle.operation.proofs.Kept.{controller-clock-kept}
 use Rattle.operation.proofs.FitsIn.{controller-clock-fits}
-use Rattle.fast_forward.specs.Forward.{forward, forwarding, operationFree, operationLater}
+use Rattle.fast_forward.specs.Forward.{forward, forwarding, operationBeforeDue, operationLater}
 use Rattle.fast_forward.proofs.Free.{free-for}
 use Rattle.fast_forward.proofs.Laws.{later-fits}
 use Rattle.fast_forward.proofs.Replaced.{active-of, clocked, none-counts}
@@ -58,7 +58,7 @@ dueOf n o = operationClock (operationLater n o)
 abbrev next : ℕ → Controller → Operation → Controller
 next n c o = replaced c (dueOf n o .operation) (marksAfter (c .marks) (operationLater n o) (dueOf n o .finished))
 
-module _ (n : ℕ) (c : Controller) (o : Operation) (k : Counting c o) (h : n ≤ operationFree o) where
+module _ (n : ℕ) (c : Controller) (o : Operation) (k : Counting c o) (h : n ≤ operationBeforeDue o) where
   older : OnlyCounts n c o (c .marks)
   older = only-counts n c o (c .marks) (k .moves) (free-for n o (sound c o k) h)
 
@@ -110,7 +110,7 @@ module _ (n : ℕ) (c : Controller) (o : Operation) (k : Counting c o) (h : n �
 -- no such clock among those to come
 pub none-due : (all count : ℕ) (c : Controller) (o : Operation) (image : List ℕ)
     → Counting c o
-    → all - count ≤ operationFree o
+    → all - count ≤ operationBeforeDue o
     → count ≤ all
     → forwarding (all - count) count (replaced c o (c .marks)) image ≡ forward all (replaced c (operationLater (all - count) o) (c .marks)) image
 none-due all count c o image k h l =

@@ -37,12 +37,12 @@ forwarding (suc n) count c image =
     (forwarding n (count + 1) (controllerClock c .controller) (applied (controllerClock c .effect) image))
 
 -- for so many clocks an operation that counts has nothing due: no effect, no end and no end of a pause
-unfoldable pub operationFree : Operation → ℕ
-operationFree o = cond (isPausing o) (cond (ltb (o .pause .0) (o .left .0)) (o .pause .0 - 1) (o .left .0 - 1)) (o .left .0 - 1)
+unfoldable pub operationBeforeDue : Operation → ℕ
+operationBeforeDue o = cond (isPausing o) (cond (ltb (o .pause .0) (o .left .0)) (o .pause .0 - 1) (o .left .0 - 1)) (o .left .0 - 1)
 
 -- and a controller: where none counts, for as many as can be asked for
-unfoldable pub controllerFree : Controller → ℕ
-controllerFree c = cond (isStill (active c)) 4294967295 (operationFree (active c))
+unfoldable pub controllerBeforeDue : Controller → ℕ
+controllerBeforeDue c = cond (isStill (active c)) 4294967295 (operationBeforeDue (active c))
 
 -- an operation after n clocks on which nothing was due: it has less to come, and so has its pause where it is pausing
 unfoldable pub operationLater : ℕ → Operation → Operation

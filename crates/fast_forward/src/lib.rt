@@ -13,7 +13,7 @@ ghost use mathlib.Core.Bool.{true};
 ghost use Prim.Native.Nat.{_≤_};
 ghost use lib.ListN.{length};
 ghost use Rattle.soundness.specs.Sound.{operationFits, controllerFits};
-ghost use Rattle.fast_forward.specs.Forward.{forward, forwarding, operationFree, controllerFree, operationLater};
+ghost use Rattle.fast_forward.specs.Forward.{forward, forwarding, operationBeforeDue, controllerBeforeDue, operationLater};
 
 // How many clocks were done, and the controller after them.
 pub struct Forwarded {
@@ -21,10 +21,10 @@ pub struct Forwarded {
     pub controller: Controller,
 }
 
-// For so many clocks an operation has nothing due.
-fn operation_free(o: Operation) -> u32
+// How many clocks an operation has before one on which something is due.
+fn operation_before_due(o: Operation) -> u32
     requires { ⌜ operationFits o ≡ true ⌝ }
-    ensures { λ r. ⌜ r ≡ operationFree o ⌝ }
+    ensures { λ r. ⌜ r ≡ operationBeforeDue o ⌝ }
 {
     if o.state == 1 {
         if o.pause.0 < o.left.0 {
@@ -35,22 +35,22 @@ fn operation_free(o: Operation) -> u32
     o.left.0 - 1
 }
 
-// For so many clocks nothing is due in a controller.
-pub fn controller_free(c: Controller) -> u32
+// How many a controller has: where no operation counts, as many as can be asked for.
+pub fn controller_before_due(c: Controller) -> u32
     requires { ⌜ controllerFits c ≡ true ⌝ }
-    ensures { λ r. ⌜ r ≡ controllerFree c ⌝ }
+    ensures { λ r. ⌜ r ≡ controllerBeforeDue c ⌝ }
 {
     let o = active_of(c);
     if is_still(o) {
         return 4294967295;
     }
-    operation_free(o)
+    operation_before_due(o)
 }
 
 // An operation after n clocks on which nothing is due.
 fn operation_later(o: Operation, n: u32) -> Operation
     requires { ⌜ operationFits o ≡ true ⌝ }
-    requires { ⌜ n ≤ operationFree o ⌝ }
+    requires { ⌜ n ≤ operationBeforeDue o ⌝ }
     ensures { λ r. ⌜ r ≡ operationLater n o ⌝ }
 {
     let left = Clocks(o.left.0 - n);
@@ -80,7 +80,7 @@ pub fn forward(c: Controller, image: &mut [u8], n: u32) -> Forwarded
     let mut o = first;
     let mut done: u32 = 0;
     while done < n {
-        let ahead = operation_free(o);
+        let ahead = operation_before_due(o);
         if n - done <= ahead {
             return Forwarded {
                 count: n,

@@ -14,7 +14,7 @@ use Rattle.record.specs.declared.Device.{Device}
 use Rattle.record.specs.Record.{frame}
 use Rattle.basics.specs.Bytes.{filled, put}
 use Rattle.soundness.specs.Sound.{controllerFits}
-use Rattle.fast_forward.specs.Forward.{controllerFree}
+use Rattle.fast_forward.specs.Forward.{controllerBeforeDue}
 use Rattle.fast_forward.proofs.NothingDue.{free-image, free-status, later-mode}
 use Rattle.bus.specs.declared.Asked.the-variants.{Nothing as Silent}
 use Rattle.bus.specs.Frames.{frameClock, askedOf, drivenOf}
@@ -51,7 +51,7 @@ put-filled b k n = rw length-replicate
 -- what a read finds, while nothing is due
 found : (n : ℕ) (f : Frame) (d : Device) (x address byte : ℕ)
     → controllerFits (d .controller) ≡ true
-    → n ≤ controllerFree (d .controller)
+    → n ≤ controllerBeforeDue (d .controller)
     → valueOf (deviceLater n f d) x address byte ≡ valueOf d x address byte
 unfolding valueOf arrayValue
 found n f d x address byte c h = rw (later-mode n (d .controller), free-status n (d .controller) c h)
@@ -119,7 +119,7 @@ module _ (d : Device) (image s : List ℕ) (k : ℕ) (f : Frame) (b : List ℕ) 
 
   by : (j : ℕ) (g : Frame) (c : List ℕ)
       → length c ≡ length b
-      → ((n : ℕ) → n + j ≤ controllerFree (d .controller) → Simulates s k (worldLater d image n f) b (k + j) (worldLater d image (n + j) g) c)
+      → ((n : ℕ) → n + j ≤ controllerBeforeDue (d .controller) → Simulates s k (worldLater d image n f) b (k + j) (worldLater d image (n + j) g) c)
       → Alone d image s k f b (k + j) g c
   by j g c z t =
       let e : k + j - k ≡ j = omega arith in
@@ -154,13 +154,13 @@ module _ (d : Device) (image s : List ℕ) (k : ℕ) (f : Frame) (b : List ℕ) 
       let a = addressAt s (k + 2) in
       by 18 (readFrame d image s k) c size
       (λ n h.
-      let near : n + 15 ≤ controllerFree (d .controller) = omega arith in
+      let near : n + 15 ≤ controllerBeforeDue (d .controller) = omega arith in
       let y = found (n + 15) (frame 1 15 0 a) d (sampleAt s (k + 14)) a (getD image (arrayAddress a) 0) fit near in
       lands s k (k + 18) _ _ (readAnswers (readByte d image s k)) b c (rw (free-image (n + 15) (d .controller) image fit near, y) at (whole-read d image s k to n f q l)) (omega arith) z)
 
 -- one step of the bus alone behind those before it
 pub alone-on : {d : Device} {image s a b c : List ℕ} {from k m : ℕ} {w : World} {f g : Frame}
-    → m - from ≤ controllerFree (d .controller)
+    → m - from ≤ controllerBeforeDue (d .controller)
     → Simulates s from w a k (worldLater d image (k - from) f) b
     → Alone d image s k f b m g c
     → Simulates s from w a m (worldLater d image (m - from) g) c

@@ -8,7 +8,7 @@ use Rattle.record.specs.declared.Frame.{Frame}
 use Rattle.record.specs.declared.Device.{Device}
 use Rattle.record.specs.Record.{device, frame}
 use Rattle.soundness.specs.Sound.{soundOf}
-use Rattle.fast_forward.specs.Forward.{controllerLater, imageLater, controllerFree}
+use Rattle.fast_forward.specs.Forward.{controllerLater, imageLater, controllerBeforeDue}
 use Rattle.access.specs.Read.{arrayAddress, valueOf}
 use Rattle.lookahead.specs.Lookahead.{addressAt, byteAt}
 use Rattle.clock.specs.Fold.{World, world, through, answersTo}
@@ -55,7 +55,7 @@ pub record Room (d : Device) (image s answers : List ℕ) (n : ℕ) : Type 0 whe
 pub record Alone (d : Device) (image s : List ℕ) (k : ℕ) (f : Frame) (buffer : List ℕ) (m : ℕ) (g : Frame) (later : List ℕ) : Type 0 where
   pub forward : k ≤ m
   pub size : length later ≡ length buffer
-  pub goes : (n : ℕ) → n + (m - k) ≤ controllerFree (d .controller)
+  pub goes : (n : ℕ) → n + (m - k) ≤ controllerBeforeDue (d .controller)
       → Simulates s k (worldLater d image n f) buffer m (worldLater d image (n + (m - k)) g) later
 
 -- the byte that a whole read from place k on finds, while nothing is due, and the frame after its eighteenth clock

@@ -10,7 +10,7 @@ use bus::ask;
 use bus::clock_frame;
 use bus::drive;
 use clock::clock_device;
-use fast_forward::controller_free;
+use fast_forward::controller_before_due;
 use fast_forward::forward;
 use lookahead::address_at;
 use lookahead::answer_read;
@@ -33,7 +33,7 @@ ghost use Prim.Native.Nat.{ℕ, _+_, _-_, _*_, _/_, _≤_, _<_};
 ghost use lib.ListN.{length, drop};
 ghost use Rattle.record.specs.declared.Device.{Device};
 ghost use Rattle.soundness.specs.Sound.{controllerFits, soundOf};
-ghost use Rattle.fast_forward.specs.Forward.{imageLater, controllerFree};
+ghost use Rattle.fast_forward.specs.Forward.{imageLater, controllerBeforeDue};
 ghost use Rattle.bus.specs.declared.Asked.the-variants.{Nothing};
 ghost use Rattle.bus.specs.Frames.{askedOf};
 ghost use Rattle.lookahead.specs.Lookahead.{staysIdle, wholeFrame, readAnswers};
@@ -163,7 +163,7 @@ fn run_bus_alone(
 ) -> BusAlone
     requires { ⌜ Room d (now image) (now stream) (now answers) to ⌝ }
     requires { ⌜ from ≤ to ⌝ }
-    requires { ⌜ to - from ≤ controllerFree (d .controller) ⌝ }
+    requires { ⌜ to - from ≤ controllerBeforeDue (d .controller) ⌝ }
     ensures { λ r. ⌜ (r .place ≤ to)
         × Simulates (now (stream .entry)) from (world d (now (image .entry))) (now (answers .entry))
         (r .place) (worldLater d (now (image .entry)) (r .place - from) (r .frame)) (now (answers .exit)) ⌝ }
@@ -198,8 +198,8 @@ fn device_later(d: Device, image: &mut [u8], f: Frame, n: u32) -> Device
         return next;
     }
     let p = forward(c, image, n);
-    let controllerClocked = p.controller;
-    next.controller = controllerClocked;
+    let counted = p.controller;
+    next.controller = counted;
     next
 }
 
@@ -322,12 +322,12 @@ fn stretch_on(
 }
 
 // The place from k on, n at most, up to which nothing is due in a controller.
-fn quiet_until(c: Controller, k: usize, n: usize) -> usize
+fn place_before_due(c: Controller, k: usize, n: usize) -> usize
     requires { ⌜ controllerFits c ≡ true ⌝ }
     requires { ⌜ k ≤ n ⌝ }
-    ensures { λ r. ⌜ (k ≤ r) × (r ≤ n) × (r - k ≤ controllerFree c) ⌝ }
+    ensures { λ r. ⌜ (k ≤ r) × (r ≤ n) × (r - k ≤ controllerBeforeDue c) ⌝ }
 {
-    let ahead = controller_free(c) as usize;
+    let ahead = controller_before_due(c) as usize;
     k + lesser(n - k, ahead)
 }
 
@@ -347,7 +347,7 @@ fn run_stretch(
         n (r .place) (world (r .device) (now (image .exit))) (now (answers .exit)) ⌝ }
 {
     let c = d.controller;
-    let g = run_bus_alone(d, image, stream, answers, k, quiet_until(c, k, n));
+    let g = run_bus_alone(d, image, stream, answers, k, place_before_due(c, k, n));
     let f = g.frame;
     let at = g.place;
     let behind = (at - k) as u32;

@@ -6,7 +6,7 @@ use native.Mathlib.Nat.{sub-zero}
 use native.Mathlib.Omega.{arith}
 use lib.ListN.{length}
 use Rattle.operation.specs.Clock.{replaced}
-use Rattle.fast_forward.specs.Forward.{forwarding, operationFree}
+use Rattle.fast_forward.specs.Forward.{forwarding, operationBeforeDue}
 use Rattle.fast_forward.proofs.Replaced.{replaced-same}
 use Rattle.fast_forward.proofs.Turns.{Counting, stops, sound, older-sound, due-fits, due-counting, due-last, due-more, none-due}
 use Rattle.fast_forward.proofs.forward.Statement.{statement}
@@ -46,7 +46,7 @@ clock-operation-requires : tie.Need-clock-operation-requires Inv-loop μ-loop
 clock-operation-requires c κs =
     let k = c .before .before in
     let w = k .before .before in
-    rw (c .operation-later2 .ensures) (older-sound (k .operation-free .result) _ (w .loop .o) (w .loop .inv .3) (omega arith))
+    rw (c .operation-later2 .ensures) (older-sound (k .operation-before-due .result) _ (w .loop .o) (w .loop .inv .3) (omega arith))
 
 apply-requires : tie.Need-apply-requires Inv-loop μ-loop
 apply-requires c κs =
@@ -55,14 +55,14 @@ apply-requires c κs =
     let w = k .before .before in
     let l : length (w .loop .image) ≡ 1048576 = w .loop .inv .1 ∙ w .before .before .before .before .before .pre .1 in
     rw (t .clock-operation .ensures, t .before .operation-later2 .ensures, l)
-    (due-fits (k .operation-free .result) _ (w .loop .o) (w .loop .inv .3) (omega arith))
+    (due-fits (k .operation-before-due .result) _ (w .loop .o) (w .loop .inv .3) (omega arith))
 
 marks-after-requires : tie.Need-marks-after-requires Inv-loop μ-loop
 marks-after-requires c κs =
     let g = c .before .before .before .before .before .before .before .before in
     let k = g .before .before in
     let w = k .before .before in
-    rw (g .operation-later2 .ensures) (older-sound (k .operation-free .result) _ (w .loop .o) (w .loop .inv .3) (omega arith))
+    rw (g .operation-later2 .ensures) (older-sound (k .operation-before-due .result) _ (w .loop .o) (w .loop .inv .3) (omega arith))
 
 same-length-2 : tie.Need-same-length-2 Inv-loop μ-loop
 same-length-2 c =
@@ -78,10 +78,10 @@ returns-3 c =
     let k = t .before .before .before in
     let w = k .before .before in
     let s = w .before .before .before .before .before in
-    let h : k .operation-free .result ≤ operationFree (w .loop .o) = omega (arith, k .operation-free .ensures) in
+    let h : k .operation-before-due .result ≤ operationBeforeDue (w .loop .o) = omega (arith, k .operation-before-due .ensures) in
     let e = rw (t .clock-operation .ensures, t .before .operation-later2 .ensures) at (sym (i .is-still2 .ensures) ∙ c .before .before .if3 .taken) in
     rw (c .replace2 .ensures, c .before .marks-after .ensures, p .apply .ensures, t .clock-operation .ensures, t .before .operation-later2 .ensures)
-    (sym (due-last (k .operation-free .result) (s .args .c) (w .loop .o) (w .loop .inv .3) h (s .args .n) (w .loop .done) (w .loop .image) (t .before .before .if2 .left) (s .pre .0) e)
+    (sym (due-last (k .operation-before-due .result) (s .args .c) (w .loop .o) (w .loop .inv .3) h (s .args .n) (w .loop .done) (w .loop .image) (t .before .before .if2 .left) (s .pre .0) e)
     ∙ w .loop .inv .2)
 
 loop-again : tie.Need-loop-again Inv-loop μ-loop
@@ -92,14 +92,14 @@ loop-again c =
     let k = t .before .before .before in
     let w = k .before .before in
     let a = w .before .before .before .before .before .args in
-    let h : k .operation-free .result ≤ operationFree (w .loop .o) = omega (arith, k .operation-free .ensures) in
+    let h : k .operation-before-due .result ≤ operationBeforeDue (w .loop .o) = omega (arith, k .operation-before-due .ensures) in
     let e = rw (t .clock-operation .ensures, t .before .operation-later2 .ensures) at (sym (i .is-still2 .ensures) ∙ c .if3 .left) in (
       omega (arith, t .before .before .if2 .left),
       omega (arith, p .apply .kept .1 .0, w .loop .inv .1),
       rw (p .apply .ensures, t .clock-operation .ensures, t .before .operation-later2 .ensures)
-          (sym (due-more (k .operation-free .result) (a .c) (w .loop .o) (w .loop .inv .3) h (a .n) (w .loop .done) (w .loop .image) (t .before .before .if2 .left) e)
+          (sym (due-more (k .operation-before-due .result) (a .c) (w .loop .o) (w .loop .inv .3) h (a .n) (w .loop .done) (w .loop .image) (t .before .before .if2 .left) e)
           ∙ w .loop .inv .2),
-      rw (t .clock-operation .ensures, t .before .operation-later2 .ensures) (due-counting (k .operation-free .result) (a .c) (w .loop .o) (w .loop .inv .3) h e),
+      rw (t .clock-operation .ensures, t .before .operation-later2 .ensures) (due-counting (k .operation-before-due .result) (a .c) (w .loop .o) (w .loop .inv .3) h e),
     )
 
 returns-4 : tie.Need-returns-4 Inv-loop μ-loop

@@ -9,16 +9,16 @@ use Rattle.fast_run.proofs.Steps.{room-less, room-later}
 use Rattle.fast_run.proofs.run_stretch.Statement.{statement}
 use Rattle.fast_run.proofs.run_stretch.Tie as tie
 
-quiet-until-requires : tie.Need-quiet-until-requires
-quiet-until-requires c κs =
+place-before-due-requires : tie.Need-place-before-due-requires
+place-before-due-requires c κs =
     let z = c .before .before .before .before .before .before in
     (parts (z .args .d) (z .pre .0 .sound) .controller, omega (arith, z .pre))
 
 run-bus-alone-requires : tie.Need-run-bus-alone-requires
 run-bus-alone-requires c κs =
     let z = c .before .before .before .before .before .before .before in
-    let q = c .quiet-until .ensures in
-    (room-less (c .quiet-until .result) (z .pre .0) (q .1), (q .0, q .2))
+    let q = c .place-before-due .ensures in
+    (room-less (c .place-before-due .result) (z .pre .0) (q .1), (q .0, q .2))
 
 stretch-on-requires : tie.Need-stretch-on-requires
 stretch-on-requires c κs =
@@ -40,7 +40,7 @@ returns-2 c =
     let b = g .run-bus-alone .ensures in
     record {
       further = omega (arith, z .pre);
-      within = omega (arith, b .0, g .before .quiet-until .ensures);
+      within = omega (arith, b .0, g .before .place-before-due .ensures);
       simulates = rw (q .0, q .1) (b .1);
     }
 
@@ -48,7 +48,7 @@ pub run-stretch-spec : {M : Type 1} → statement M
 run-stretch-spec =
     tie.close
     (tie.spec
-    quiet-until-requires
+    place-before-due-requires
     run-bus-alone-requires
     (λ c. search needs)
     (λ c. search needs)

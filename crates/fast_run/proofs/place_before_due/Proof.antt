@@ -1,4 +1,4 @@
--- `fast_run::quiet_until` meets its contract. Assumes nothing.
+-- `fast_run::place_before_due` meets its contract. Assumes nothing.
 use borrow.Author.Needs.{needs}
 use Prim.Native.Nat.{ℕ, _≤_}
 use mathlib.Core.Path.{_≡_}
@@ -7,8 +7,8 @@ use lib.Dec.{ltb}
 use borrow.Author.Tests.{ltb-true, ltb-false}
 use Rattle.basics.specs.Numbers.{lesser}
 use Rattle.basics.proofs.Rules.{ask, yes, no}
-use Rattle.fast_run.proofs.quiet_until.Statement.{statement}
-use Rattle.fast_run.proofs.quiet_until.Tie as tie
+use Rattle.fast_run.proofs.place_before_due.Statement.{statement}
+use Rattle.fast_run.proofs.place_before_due.Tie as tie
 
 -- the lesser of two is at most either
 at-most : (a b r : ℕ) → r ≡ lesser a b → (r ≤ a) × (r ≤ b)
@@ -23,8 +23,8 @@ at-most a b r e =
           let x : r ≡ b = rw t at e in (omega arith, omega arith)
     ]
 
-pub quiet-until-spec : {M : Type 1} → statement M
-quiet-until-spec =
+pub place-before-due-spec : {M : Type 1} → statement M
+place-before-due-spec =
     tie.close
     (tie.spec
     (λ c κs. search needs)

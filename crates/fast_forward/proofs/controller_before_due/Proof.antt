@@ -1,17 +1,17 @@
--- `fast_forward::controller_free` meets its contract. Assumes nothing.
+-- `fast_forward::controller_before_due` meets its contract. Assumes nothing.
 use borrow.Author.Needs.{needs}
 use mathlib.Core.Path.{_≡_}
 use mathlib.Core.Bool.{false}
 use Rattle.basics.proofs.Rules.{cases}
 use Rattle.operation.specs.Clock.{active, isStill}
 use Rattle.operation.proofs.Facts.{active-fits, moving}
-use Rattle.fast_forward.specs.Forward.{controllerFree}
-use Rattle.fast_forward.proofs.controller_free.Statement.{statement}
-use Rattle.fast_forward.proofs.controller_free.Tie as tie
+use Rattle.fast_forward.specs.Forward.{controllerBeforeDue}
+use Rattle.fast_forward.proofs.controller_before_due.Statement.{statement}
+use Rattle.fast_forward.proofs.controller_before_due.Tie as tie
 
-pub controller-free-spec : {M : Type 1} → statement M
-unfolding controllerFree
-controller-free-spec =
+pub controller-before-due-spec : {M : Type 1} → statement M
+unfolding controllerBeforeDue
+controller-before-due-spec =
     tie.close
     (tie.spec
     (λ c κs. search needs)
@@ -21,4 +21,4 @@ controller-free-spec =
     (λ c.
     let w = c .before .before .before in
     let f = rw (w .active-of .ensures) at (c .before .before .is-still .ensures) in
-    search (cases, c .operation-free .ensures, w .active-of .ensures, ← f, c .before .if1 .left)))
+    search (cases, c .operation-before-due .ensures, w .active-of .ensures, ← f, c .before .if1 .left)))
