@@ -159,11 +159,11 @@ module _ (d : Device) (image s : List ℕ) (k : ℕ) (f : Frame) (b : List ℕ) 
       lands s k (k + 18) _ _ (readAnswers (readByte d image s k)) b c (rw (free-image (n + 15) (d .controller) image fit near, y) at (whole-read d image s k to n f q l)) (omega arith) z)
 
 -- one step of the bus alone behind those before it
-pub alone-on : {d : Device} {image s a b c : List ℕ} {from k m : ℕ} {w : World} {f g : Frame}
+pub alone-on : (d : Device) {image s a b c : List ℕ} {from k m : ℕ} {w : World} {f g : Frame}
     → m - from ≤ controllerFree (d .controller)
     → Simulates s from w a k (worldLater d image (k - from) f) b
     → Alone d image s k f b m g c
     → Simulates s from w a m (worldLater d image (m - from) g) c
-alone-on {d} {image} {s} {a} {b} {c} {from} {k} {m} h o p =
+alone-on d {image} {s} {a} {b} {c} {from} {k} {m} h o p =
     let e : k - from + (m - k) ≡ m - from = omega (arith, o .forward, p .forward) in
     simulates-on o (rw e at (p .goes (k - from) (rw e h)))

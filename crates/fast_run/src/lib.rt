@@ -122,20 +122,21 @@ fn clock_bus(
     BusAlone { place: k, frame: f }
 }
 
-// A step of the bus alone: an idle stretch or a whole read at once, or else a clock or none.
+// A step of the bus alone where no whole read begins: an idle stretch at once, or else a clock or none.
 fn step_bus(
-    d: Device,
-    image: &[u8],
+    straps: u8,
     stream: &[u8],
     answers: &mut [u8],
     f: Frame,
     k: usize,
     to: usize,
 ) -> BusAlone
-    requires { ⌜ Room d (now image) (now stream) (now answers) to ⌝ }
     requires { ⌜ k < to ⌝ }
+    requires { ⌜ 2 * to ≤ length (now stream) ⌝ }
+    requires { ⌜ to ≤ length (now answers) ⌝ }
     ensures { λ r. ⌜ (r .place ≤ to)
-        × Alone d (now (image .entry)) (now (stream .entry)) k f (now (answers .entry)) (r .place) (r .frame) (now (answers .exit)) ⌝ }
+        × ((d : Device) (image : List ℕ) → d .straps ≡ straps
+        → Alone d image (now (stream .entry)) k f (now (answers .entry)) (r .place) (r .frame) (now (answers .exit))) ⌝ }
 {
     if stays_idle(f, sample_at(stream, k)) {
         return BusAlone {
@@ -143,16 +144,10 @@ fn step_bus(
             frame: end_frame(f),
         };
     }
-    if is_whole_frame(stream, d.straps, 13, k, to, 18) {
-        return BusAlone {
-            place: k + 18,
-            frame: take_read(d, image, stream, answers, k),
-        };
-    }
-    clock_bus(d.straps, stream, answers, f, k, to)
+    clock_bus(straps, stream, answers, f, k, to)
 }
 
-// The bus alone, while nothing is due in the controller, step by step until one goes no further.
+// The bus alone, while nothing is due in the controller: whole reads at once, and other steps until one goes no further.
 fn run_bus_alone(
     d: Device,
     image: &[u8],
@@ -171,13 +166,18 @@ fn run_bus_alone(
     let mut f = d.frame;
     let mut k = from;
     while k < to {
-        let t = step_bus(d, image, stream, answers, f, k, to);
-        if t.place == k {
-            return t;
+        if is_whole_frame(stream, d.straps, 13, k, to, 18) {
+            f = take_read(d, image, stream, answers, k);
+            k += 18;
+        } else {
+            let t = step_bus(d.straps, stream, answers, f, k, to);
+            if t.place == k {
+                return t;
+            }
+            let next = t.frame;
+            f = next;
+            k = t.place;
         }
-        let next = t.frame;
-        f = next;
-        k = t.place;
     }
     BusAlone { place: k, frame: f }
 }

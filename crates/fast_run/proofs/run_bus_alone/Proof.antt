@@ -1,12 +1,15 @@
 -- `fast_run::run_bus_alone` meets its contract: each step takes the bus further, behind those before it. Assumes nothing.
 use borrow.Author.Needs.{needs}
 use Prim.Native.Nat.{_≤_, _-_}
-use mathlib.Core.Path.{_≡_, _∙_}
+use mathlib.Core.Path.{_≡_, _∙_, sym, refl}
+use mathlib.Core.List.{[]}
 use native.Mathlib.Omega.{arith}
+use Rattle.soundness.proofs.Clauses.{parts}
 use Rattle.clock.specs.Fold.{world}
 use Rattle.fast_run.specs.Stretch.{worldLater, Simulates}
 use Rattle.fast_run.proofs.Leads.{stays}
-use Rattle.fast_run.proofs.Steps.{room-later, alone-on}
+use Rattle.fast_run.proofs.Whole.{whole-room}
+use Rattle.fast_run.proofs.Steps.{alone-read, alone-on}
 use Rattle.fast_run.proofs.run_bus_alone.Statement.{statement}
 use Rattle.fast_run.proofs.run_bus_alone.Tie as tie
 
@@ -23,37 +26,72 @@ loop-holds c =
     let e : z .args .from - z .args .from ≡ 0 = omega arith in
     (z .pre .1 .0, rw e (stays (z .args .stream .now) (z .args .from) (world (z .args .d) (z .args .image .now)) (z .args .answers .now)))
 
+take-read-requires : tie.Need-take-read-requires Inv-loop μ-loop
+take-read-requires c κs =
+    let i = c .before in
+    let w = i .before .before .before in
+    let z = w .before .before .before .before .before in
+    let h = whole-room _ _ _ _ _ _ (sym (i .before .is-whole-frame .ensures) ∙ i .if1 .taken) in
+    (z .pre .0 .whole, (omega (arith, z .pre), omega (arith, z .pre, w .loop .inv .1 .size)))
+
+add-k : tie.Need-add-k Inv-loop μ-loop
+add-k c =
+    let i = c .before .before .before .before in
+    let h = whole-room _ _ _ _ _ _ (sym (i .before .is-whole-frame .ensures) ∙ i .if1 .taken) in
+    let z = i .before .before .before .before .before .before .before .before in
+    omega (arith, z .pre)
+
+loop-less : tie.Need-loop-less Inv-loop μ-loop
+loop-less c =
+    let i = c .before .before .before .before in
+    let h = whole-room _ _ _ _ _ _ (sym (i .before .is-whole-frame .ensures) ∙ i .if1 .taken) in
+    omega arith
+
+loop-again : tie.Need-loop-again Inv-loop μ-loop
+loop-again c =
+    let t = c .before .before in
+    let i = t .before .before in
+    let w = i .before .before .before in
+    let z = w .before .before .before .before .before in
+    let m = z .pre .0 in
+    let v = sym (i .before .is-whole-frame .ensures) ∙ i .if1 .taken in
+    let h = whole-room _ _ _ _ _ _ v in
+    let e = t .take-read .ensures in
+    let p = alone-read (z .args .d) (z .args .image .now) _ _ (w .loop .f) _ _ _ (parts _ (m .sound) .controller) (m .given) (omega (arith, m .wide, w .loop .inv .1 .size)) v (rw (e .0) at (e .1)) (t .take-read .kept .1 .1 .1 .0) in
+    (omega (arith, i .before .before .loop-test), alone-on (z .args .d) (omega (arith, z .pre, i .before .before .loop-test)) (w .loop .inv .1) (rw (e .0) p))
+
 step-bus-requires : tie.Need-step-bus-requires Inv-loop μ-loop
 step-bus-requires c κs =
-    let w = c .before .before in
+    let w = c .before .before .before .before in
     let z = w .before .before .before .before .before in
-    (room-later (z .pre .0) (w .loop .inv .1 .size), omega arith)
+    (omega arith, (z .pre .0 .given, omega (arith, z .pre, w .loop .inv .1 .size)))
 
 same-length : tie.Need-same-length Inv-loop μ-loop
 same-length c =
     let t = c .before .before .before .before in
-    t .step-bus .kept .1 .1 .1 .0 ∙ t .before .before .before .loop .inv .1 .size
+    t .step-bus .kept .1 .1 .0 ∙ t .before .before .before .before .before .loop .inv .1 .size
 
 returns : tie.Need-returns Inv-loop μ-loop
 returns c =
     let t = c .before .before .before .before in
-    let w = t .before .before .before in
+    let w = t .before .before .before .before .before in
     let z = w .before .before .before .before .before in
     let x = t .step-bus .ensures in
-    (x .0, alone-on (omega (arith, x .0, z .pre)) (w .loop .inv .1) (x .1))
+    (x .0, alone-on (z .args .d) (omega (arith, x .0, z .pre)) (w .loop .inv .1) (x .1 _ _ refl))
 
-loop-less : tie.Need-loop-less Inv-loop μ-loop
-loop-less c =
+loop-less-2 : tie.Need-loop-less-2 Inv-loop μ-loop
+loop-less-2 c =
     let t = c .before .before .before .before .before in
-    omega (arith, t .step-bus .ensures)
+    let p = t .step-bus .ensures .1 (t .before .before .before .before .before .before .before .before .before .before .args .d) [] refl in
+    omega (arith, t .step-bus .ensures .0, p .forward)
 
-loop-again : tie.Need-loop-again Inv-loop μ-loop
-loop-again c =
+loop-again-2 : tie.Need-loop-again-2 Inv-loop μ-loop
+loop-again-2 c =
     let t = c .before .before .before .before .before in
-    let w = t .before .before .before in
+    let w = t .before .before .before .before .before in
     let z = w .before .before .before .before .before in
     let x = t .step-bus .ensures in
-    (x .0, alone-on (omega (arith, x .0, z .pre)) (w .loop .inv .1) (x .1))
+    (x .0, alone-on (z .args .d) (omega (arith, x .0, z .pre)) (w .loop .inv .1) (x .1 _ _ refl))
 
 pub run-bus-alone-spec : {M : Type 1} → statement M
 run-bus-alone-spec =
@@ -62,10 +100,15 @@ run-bus-alone-spec =
     Inv-loop
     μ-loop
     loop-holds
+    (λ c κs. search needs)
+    take-read-requires
+    add-k
+    loop-less
+    loop-again
     step-bus-requires
     same-length
     returns
-    loop-less
-    loop-again
+    loop-less-2
+    loop-again-2
     (λ c. c .before .loop .inv .1 .size)
     (λ c. c .before .loop .inv))
