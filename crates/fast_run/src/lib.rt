@@ -36,11 +36,11 @@ ghost use Rattle.soundness.specs.Sound.{controllerFits, soundOf};
 ghost use Rattle.fast_forward.specs.Forward.{imageLater, controllerFree};
 ghost use Rattle.bus.specs.declared.Asked.the-variants.{Nothing};
 ghost use Rattle.bus.specs.Frames.{askedOf};
-ghost use Rattle.lookahead.specs.Lookahead.{staysIdle, wholeFrame, readAnswers};
+ghost use Rattle.lookahead.specs.Lookahead.{addressAt, staysIdle, wholeFrame};
+ghost use Rattle.access.specs.Read.{arrayAddress};
 ghost use Rattle.clock.specs.Fold.{world, through, answersTo};
 ghost use Rattle.record.specs.Sample.{samples, isReset, sampleAt};
-ghost use Rattle.basics.specs.Bytes.{put};
-ghost use Rattle.fast_run.specs.Stretch.{deviceLater, worldLater, Simulates, Stretched, Room, Alone, readFrame};
+ghost use Rattle.fast_run.specs.Stretch.{deviceLater, worldLater, Simulates, Stretched, Room, Alone};
 
 // How far the bus has come alone: the place of the next sample, and the frame then.
 struct BusAlone {
@@ -48,23 +48,25 @@ struct BusAlone {
     pub frame: Frame,
 }
 
-// The answers to a whole read while nothing is due, and the frame after it.
-fn take_read(d: Device, image: &[u8], stream: &[u8], answers: &mut [u8], k: usize) -> Frame
-    requires { ⌜ length (now image) ≡ 1048576 ⌝ }
+// What a whole read asks for: the address, its place in the array, and the sample on which the value is fixed.
+struct Sought {
+    pub address: u32,
+    pub place: usize,
+    pub sample: u16,
+}
+
+// The same of the read that begins at place k.
+fn sought_at(stream: &[u8], k: usize) -> Sought
     requires { ⌜ 2 * (k + 18) ≤ length (now stream) ⌝ }
-    requires { ⌜ k + 18 ≤ length (now answers) ⌝ }
-    ensures { λ r. ⌜ (r ≡ readFrame d (now (image .entry)) (now (stream .entry)) k)
-        × (now (answers .exit) ≡ put (now (answers .entry)) k (readAnswers (r .byte))) ⌝ }
+    ensures { λ r. ⌜ (r .address ≡ addressAt (now (stream .entry)) (k + 2))
+        × (r .place ≡ arrayAddress (addressAt (now (stream .entry)) (k + 2)))
+        × (r .sample ≡ sampleAt (now (stream .entry)) (k + 14)) ⌝ }
 {
     let address = address_at(stream, k + 2);
-    let at = array_address(address) as usize;
-    let byte = value(d, sample_at(stream, k + 14), address, image[at]);
-    answer_read(answers, k, byte);
-    Frame {
-        kind: 1,
-        clock: 18,
-        byte,
+    Sought {
         address,
+        place: array_address(address) as usize,
+        sample: sample_at(stream, k + 14),
     }
 }
 
@@ -167,7 +169,17 @@ fn run_bus_alone(
     let mut k = from;
     while k < to {
         if is_whole_frame(stream, d.straps, 13, k, to, 18) {
-            f = take_read(d, image, stream, answers, k);
+            let r = sought_at(stream, k);
+            let address = r.address;
+            let at = r.place;
+            let byte = value(d, r.sample, address, image[at]);
+            answer_read(answers, k, byte);
+            f = Frame {
+                kind: 1,
+                clock: 18,
+                byte,
+                address,
+            };
             k += 18;
         } else {
             let t = step_bus(d.straps, stream, answers, f, k, to);
