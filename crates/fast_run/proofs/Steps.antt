@@ -14,6 +14,7 @@ use Rattle.record.specs.declared.Device.{Device}
 use Rattle.record.specs.Record.{frame}
 use Rattle.basics.specs.Bytes.{filled, put}
 use Rattle.soundness.specs.Sound.{controllerFits}
+use Rattle.soundness.proofs.Clauses.{parts}
 use Rattle.fast_forward.specs.Forward.{controllerFree}
 use Rattle.fast_forward.proofs.NothingDue.{free-image, free-status, later-mode}
 use Rattle.bus.specs.declared.Asked.the-variants.{Nothing as Silent}
@@ -106,16 +107,16 @@ module _ (d : Device) (image s : List ℕ) (k : ℕ) (f : Frame) (b : List ℕ) 
       }
 
   -- along idle samples
-  pub alone-rest : (m : ℕ) (c : List ℕ)
-      → isFrameOver f ≡ true
+  pub alone-rest : (to m : ℕ) (c : List ℕ)
+      → Room d image s b to
       → k < m
-      → 2 * m ≤ length s
-      → m ≤ length b
+      → m ≤ to
+      → staysIdle f (sampleAt s k) ≡ true
       → Skipped s b k m c
       → length c ≡ length b
       → Alone d image s k f b m (endedFrame f) c
-  alone-rest m c v h l r q z =
-      record { forward = omega arith; size = z; goes = λ n i. rest-step n m c v h l r q }
+  alone-rest to m c r h l e q z =
+      record { forward = omega arith; size = z; goes = λ n i. rest-step n m c (over _ _ e .1) h (omega arith) (omega arith) q }
 
   by : (j : ℕ) (g : Frame) (c : List ℕ)
       → length c ≡ length b
@@ -141,29 +142,29 @@ module _ (d : Device) (image s : List ℕ) (k : ℕ) (f : Frame) (b : List ℕ) 
 
   -- a whole read
   pub alone-read : (to byte : ℕ) (c : List ℕ)
-      → controllerFits (d .controller) ≡ true
-      → 2 * to ≤ length s
-      → to ≤ length b
+      → Room d image s b to
       → wholeFrame s (d .straps) 13 k to 18 ≡ true
       → byte ≡ valueOf d (sampleAt s (k + 14)) (addressAt s (k + 2)) (getD image (arrayAddress (addressAt s (k + 2))) 0)
       → c ≡ put b k (readAnswers byte)
       → length c ≡ length b
       → Alone d image s k f b (k + 18) (frame 1 18 byte (addressAt s (k + 2))) c
-  alone-read to byte c fit l r q e z size =
+  alone-read to byte c r q e z size =
+      let fit = parts d (r .sound) .controller in
       let room = whole-room s (d .straps) 13 k to 18 q in
       let a = addressAt s (k + 2) in
       by 18 (frame 1 18 byte a) c size
       (λ n h.
       let near : n + 15 ≤ controllerFree (d .controller) = omega arith in
       let y = found (n + 15) (frame 1 15 0 a) d (sampleAt s (k + 14)) a (getD image (arrayAddress a) 0) fit near ∙ sym e in
-      lands s k (k + 18) _ _ (readAnswers byte) b c (rw (free-image (n + 15) (d .controller) image fit near, y) at (whole-read d image s k to n f q l)) (omega arith) z)
+      lands s k (k + 18) _ _ (readAnswers byte) b c (rw (free-image (n + 15) (d .controller) image fit near, y) at (whole-read d image s k to n f q (r .given))) (omega arith) z)
 
 -- one step of the bus alone behind those before it
-pub alone-on : (d : Device) {image s a b c : List ℕ} {from k m : ℕ} {w : World} {f g : Frame}
-    → m - from ≤ controllerFree (d .controller)
+pub alone-on : (d : Device) {image s a b c : List ℕ} {from k m : ℕ} (to : ℕ) {w : World} {f g : Frame}
+    → to - from ≤ controllerFree (d .controller)
+    → m ≤ to
     → Simulates s from w a k (worldLater d image (k - from) f) b
     → Alone d image s k f b m g c
     → Simulates s from w a m (worldLater d image (m - from) g) c
-alone-on d {image} {s} {a} {b} {c} {from} {k} {m} h o p =
+alone-on d {from = from} {k = k} {m = m} to h l o p =
     let e : k - from + (m - k) ≡ m - from = omega (arith, o .forward, p .forward) in
-    simulates-on o (rw e at (p .goes (k - from) (rw e h)))
+    simulates-on o (rw e at (p .goes (k - from) (rw e (omega arith))))

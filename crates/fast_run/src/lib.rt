@@ -124,32 +124,8 @@ fn clock_bus(
     BusAlone { place: k, frame: f }
 }
 
-// A step of the bus alone where no whole read begins: an idle stretch at once, or else a clock or none.
-fn step_bus(
-    straps: u8,
-    stream: &[u8],
-    answers: &mut [u8],
-    f: Frame,
-    k: usize,
-    to: usize,
-) -> BusAlone
-    requires { ⌜ k < to ⌝ }
-    requires { ⌜ 2 * to ≤ length (now stream) ⌝ }
-    requires { ⌜ to ≤ length (now answers) ⌝ }
-    ensures { λ r. ⌜ (r .place ≤ to)
-        × ((d : Device) (image : List ℕ) → d .straps ≡ straps
-        → Alone d image (now (stream .entry)) k f (now (answers .entry)) (r .place) (r .frame) (now (answers .exit))) ⌝ }
-{
-    if stays_idle(f, sample_at(stream, k)) {
-        return BusAlone {
-            place: skip_idle(stream, answers, k, to),
-            frame: end_frame(f),
-        };
-    }
-    clock_bus(straps, stream, answers, f, k, to)
-}
-
-// The bus alone, while nothing is due in the controller: whole reads at once, and other steps until one goes no further.
+// The bus alone, while nothing is due in the controller: idle stretches and whole reads at once, other clocks one by one until
+// it stops.
 fn run_bus_alone(
     d: Device,
     image: &[u8],
@@ -168,7 +144,10 @@ fn run_bus_alone(
     let mut f = d.frame;
     let mut k = from;
     while k < to {
-        if is_whole_frame(stream, d.straps, 13, k, to, 18) {
+        if stays_idle(f, sample_at(stream, k)) {
+            k = skip_idle(stream, answers, k, to);
+            f = end_frame(f);
+        } else if is_whole_frame(stream, d.straps, 13, k, to, 18) {
             let r = sought_at(stream, k);
             let address = r.address;
             let at = r.place;
@@ -182,7 +161,7 @@ fn run_bus_alone(
             };
             k += 18;
         } else {
-            let t = step_bus(d.straps, stream, answers, f, k, to);
+            let t = clock_bus(d.straps, stream, answers, f, k, to);
             if t.place == k {
                 return t;
             }
