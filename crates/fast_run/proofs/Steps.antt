@@ -14,6 +14,7 @@ use Rattle.record.specs.declared.Device.{Device}
 use Rattle.record.specs.Record.{frame}
 use Rattle.basics.specs.Bytes.{filled, put}
 use Rattle.soundness.specs.Sound.{controllerFits}
+use Rattle.soundness.proofs.Clauses.{parts}
 use Rattle.fast_forward.specs.Forward.{controllerBeforeDue}
 use Rattle.fast_forward.proofs.NothingDue.{free-image, free-status, later-mode}
 use Rattle.bus.specs.declared.Asked.the-variants.{Nothing as Silent}
@@ -24,7 +25,7 @@ use Rattle.record.specs.Sample.{isReset, sampleAt, isIdleSample}
 use Rattle.clock.specs.Clock.{deviceClock, imageAfter}
 use Rattle.clock.specs.Fold.{World, world, onward, answerTo}
 use Rattle.lookahead.specs.Lookahead.{addressAt, isFrameOver, staysIdle, endedFrame, wholeFrame, readAnswers, Skipped}
-use Rattle.fast_run.specs.Stretch.{deviceLater, worldLater, Simulates, Room, Alone, readByte, readFrame}
+use Rattle.fast_run.specs.Stretch.{deviceLater, worldLater, Simulates, Room, Alone}
 use Rattle.fast_run.proofs.Leads.{one, lands, stays, simulates-on}
 use Rattle.fast_run.proofs.Apart.{silent, silent-answer}
 use Rattle.fast_run.proofs.Whole.{whole-room, whole-read, whole-write, writtenWorld, resting}
@@ -106,16 +107,16 @@ module _ (d : Device) (image s : List ℕ) (k : ℕ) (f : Frame) (b : List ℕ) 
       }
 
   -- along idle samples
-  pub alone-rest : (m : ℕ) (c : List ℕ)
-      → isFrameOver f ≡ true
+  pub alone-rest : (to m : ℕ) (c : List ℕ)
+      → Room d image s b to
       → k < m
-      → 2 * m ≤ length s
-      → m ≤ length b
+      → m ≤ to
+      → staysIdle f (sampleAt s k) ≡ true
       → Skipped s b k m c
       → length c ≡ length b
       → Alone d image s k f b m (endedFrame f) c
-  alone-rest m c v h l r q z =
-      record { forward = omega arith; size = z; goes = λ n i. rest-step n m c v h l r q }
+  alone-rest to m c r h l e q z =
+      record { forward = omega arith; size = z; goes = λ n i. rest-step n m c (over _ _ e .1) h (omega arith) (omega arith) q }
 
   by : (j : ℕ) (g : Frame) (c : List ℕ)
       → length c ≡ length b
@@ -140,30 +141,30 @@ module _ (d : Device) (image s : List ℕ) (k : ℕ) (f : Frame) (b : List ℕ) 
       (λ n _. lands s k (k + 1) _ _ (drivenOf e ∷ []) b c (one s k (worldLater d image n f) (worldLater d image (n + 1) e) (drivenOf e) h (silent d image n f e (sampleAt s k) r (sym fe) ask-e) (silent-answer d image n f e (sampleAt s k) r (sym fe) ask-e)) (omega arith) (z ∙ put-set b k (drivenOf e) l))
 
   -- a whole read
-  pub alone-read : (to : ℕ) (c : List ℕ)
-      → controllerFits (d .controller) ≡ true
-      → 2 * to ≤ length s
-      → to ≤ length b
+  pub alone-read : (to byte : ℕ) (c : List ℕ)
+      → Room d image s b to
       → wholeFrame s (d .straps) 13 k to 18 ≡ true
-      → c ≡ put b k (readAnswers (readByte d image s k))
+      → byte ≡ valueOf d (sampleAt s (k + 14)) (addressAt s (k + 2)) (getD image (arrayAddress (addressAt s (k + 2))) 0)
+      → c ≡ put b k (readAnswers byte)
       → length c ≡ length b
-      → Alone d image s k f b (k + 18) (readFrame d image s k) c
-  unfolding readByte
-  alone-read to c fit l r q z size =
+      → Alone d image s k f b (k + 18) (frame 1 18 byte (addressAt s (k + 2))) c
+  alone-read to byte c r q e z size =
+      let fit = parts d (r .sound) .controller in
       let room = whole-room s (d .straps) 13 k to 18 q in
       let a = addressAt s (k + 2) in
-      by 18 (readFrame d image s k) c size
+      by 18 (frame 1 18 byte a) c size
       (λ n h.
       let near : n + 15 ≤ controllerBeforeDue (d .controller) = omega arith in
-      let y = found (n + 15) (frame 1 15 0 a) d (sampleAt s (k + 14)) a (getD image (arrayAddress a) 0) fit near in
-      lands s k (k + 18) _ _ (readAnswers (readByte d image s k)) b c (rw (free-image (n + 15) (d .controller) image fit near, y) at (whole-read d image s k to n f q l)) (omega arith) z)
+      let y = found (n + 15) (frame 1 15 0 a) d (sampleAt s (k + 14)) a (getD image (arrayAddress a) 0) fit near ∙ sym e in
+      lands s k (k + 18) _ _ (readAnswers byte) b c (rw (free-image (n + 15) (d .controller) image fit near, y) at (whole-read d image s k to n f q (r .given))) (omega arith) z)
 
 -- one step of the bus alone behind those before it
-pub alone-on : {d : Device} {image s a b c : List ℕ} {from k m : ℕ} {w : World} {f g : Frame}
-    → m - from ≤ controllerBeforeDue (d .controller)
+pub alone-on : (d : Device) {image s a b c : List ℕ} {from k m : ℕ} (to : ℕ) {w : World} {f g : Frame}
+    → to - from ≤ controllerBeforeDue (d .controller)
+    → m ≤ to
     → Simulates s from w a k (worldLater d image (k - from) f) b
     → Alone d image s k f b m g c
     → Simulates s from w a m (worldLater d image (m - from) g) c
-alone-on {d} {image} {s} {a} {b} {c} {from} {k} {m} h o p =
+alone-on d {from = from} {k = k} {m = m} to h l o p =
     let e : k - from + (m - k) ≡ m - from = omega (arith, o .forward, p .forward) in
-    simulates-on o (rw e at (p .goes (k - from) (rw e h)))
+    simulates-on o (rw e at (p .goes (k - from) (rw e (omega arith))))

@@ -23,7 +23,7 @@ use Rattle.record.proofs.Samples.{Idle, idle-sample}
 use Rattle.clock.proofs.Eventless.{idle-silent}
 use Rattle.clock.specs.Fold.{World, world}
 use Rattle.lookahead.specs.Lookahead.{isStart, allIdle, addressOver, addressAt, isFrameOver, endedFrame, wholeFrame, byteAt, readAnswers}
-use Rattle.fast_run.specs.Stretch.{deviceLater, worldLater, writeFrame}
+use Rattle.fast_run.specs.Stretch.{deviceLater, worldLater}
 use Rattle.fast_run.proofs.Leads.{Leads, none, one, join}
 use Rattle.fast_run.proofs.Apart.{silent, silent-answer, reads, reads-answer, writes, writes-answer}
 
@@ -296,7 +296,7 @@ module _ (d : Device) (image s : List ℕ) where
   abbrev pub writtenWorld : ℕ → ℕ → World
   writtenWorld k n =
       world
-      (reachedOf (deviceLater (n + 12) (writeFrame s k) d) (sampleAt s (k + 11)) (addressAt s (k + 2)) (byteAt s k) .device)
+      (reachedOf (deviceLater (n + 12) (frame 2 12 (byteAt s k) (addressAt s (k + 2))) d) (sampleAt s (k + 11)) (addressAt s (k + 2)) (byteAt s k) .device)
       (imageLater (n + 12) (d .controller) image)
 
   module _ (k to n : ℕ) (f : Frame) (t : wholeFrame s (d .straps) 14 k to 12 ≡ true) (e : 2 * to ≤ length s) where

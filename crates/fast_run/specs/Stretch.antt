@@ -3,16 +3,14 @@ use Prim.Native.Nat.{ℕ, _+_, _-_, _*_, _≤_, _<_}
 use mathlib.Core.Path.{_≡_}
 use mathlib.Core.Bool.{true}
 use mathlib.Core.List.{List, _++_}
-use lib.ListN.{length, getD, take, drop}
+use lib.ListN.{length, take, drop}
 use Rattle.record.specs.declared.Frame.{Frame}
 use Rattle.record.specs.declared.Device.{Device}
-use Rattle.record.specs.Record.{device, frame}
+use Rattle.record.specs.Record.{device}
 use Rattle.soundness.specs.Sound.{soundOf}
 use Rattle.fast_forward.specs.Forward.{controllerLater, imageLater, controllerBeforeDue}
-use Rattle.access.specs.Read.{arrayAddress, valueOf}
-use Rattle.lookahead.specs.Lookahead.{addressAt, byteAt}
 use Rattle.clock.specs.Fold.{World, world, through, answersTo}
-use Rattle.record.specs.Sample.{samples, sampleAt}
+use Rattle.record.specs.Sample.{samples}
 
 -- a device n clocks later with another frame, nothing having been said to its controller
 abbrev pub deviceLater : ℕ → Frame → Device → Device
@@ -57,15 +55,3 @@ pub record Alone (d : Device) (image s : List ℕ) (k : ℕ) (f : Frame) (buffer
   pub size : length later ≡ length buffer
   pub goes : (n : ℕ) → n + (m - k) ≤ controllerBeforeDue (d .controller)
       → Simulates s k (worldLater d image n f) buffer m (worldLater d image (n + (m - k)) g) later
-
--- the byte that a whole read from place k on finds, while nothing is due, and the frame after its eighteenth clock
-unfoldable pub readByte : Device → List ℕ → List ℕ → ℕ → ℕ
-readByte d image s k =
-    valueOf d (sampleAt s (k + 14)) (addressAt s (k + 2)) (getD image (arrayAddress (addressAt s (k + 2))) 0)
-
-abbrev pub readFrame : Device → List ℕ → List ℕ → ℕ → Frame
-readFrame d image s k = frame 1 18 (readByte d image s k) (addressAt s (k + 2))
-
--- the frame after the twelfth clock of a whole write from place k on
-abbrev pub writeFrame : List ℕ → ℕ → Frame
-writeFrame s k = frame 2 12 (byteAt s k) (addressAt s (k + 2))

@@ -36,11 +36,11 @@ ghost use Rattle.soundness.specs.Sound.{controllerFits, soundOf};
 ghost use Rattle.fast_forward.specs.Forward.{imageLater, controllerBeforeDue};
 ghost use Rattle.bus.specs.declared.Asked.the-variants.{Nothing};
 ghost use Rattle.bus.specs.Frames.{askedOf};
-ghost use Rattle.lookahead.specs.Lookahead.{staysIdle, wholeFrame, readAnswers};
+ghost use Rattle.lookahead.specs.Lookahead.{addressAt, staysIdle, wholeFrame};
+ghost use Rattle.access.specs.Read.{arrayAddress};
 ghost use Rattle.clock.specs.Fold.{world, through, answersTo};
 ghost use Rattle.record.specs.Sample.{samples, isReset, sampleAt};
-ghost use Rattle.basics.specs.Bytes.{put};
-ghost use Rattle.fast_run.specs.Stretch.{deviceLater, worldLater, Simulates, Stretched, Room, Alone, readFrame};
+ghost use Rattle.fast_run.specs.Stretch.{deviceLater, worldLater, Simulates, Stretched, Room, Alone};
 
 // How far the bus has come alone: the place of the next sample, and the frame then.
 struct BusAlone {
@@ -48,23 +48,25 @@ struct BusAlone {
     pub frame: Frame,
 }
 
-// The answers to a whole read while nothing is due, and the frame after it.
-fn take_read(d: Device, image: &[u8], stream: &[u8], answers: &mut [u8], k: usize) -> Frame
-    requires { ⌜ length (now image) ≡ 1048576 ⌝ }
+// What a whole read asks for: the address, its place in the array, and the sample on which the value is fixed.
+struct Sought {
+    pub address: u32,
+    pub place: usize,
+    pub sample: u16,
+}
+
+// The same of the read that begins at place k.
+fn sought_at(stream: &[u8], k: usize) -> Sought
     requires { ⌜ 2 * (k + 18) ≤ length (now stream) ⌝ }
-    requires { ⌜ k + 18 ≤ length (now answers) ⌝ }
-    ensures { λ r. ⌜ (r ≡ readFrame d (now (image .entry)) (now (stream .entry)) k)
-        × (now (answers .exit) ≡ put (now (answers .entry)) k (readAnswers (r .byte))) ⌝ }
+    ensures { λ r. ⌜ (r .address ≡ addressAt (now (stream .entry)) (k + 2))
+        × (r .place ≡ arrayAddress (addressAt (now (stream .entry)) (k + 2)))
+        × (r .sample ≡ sampleAt (now (stream .entry)) (k + 14)) ⌝ }
 {
     let address = address_at(stream, k + 2);
-    let at = array_address(address) as usize;
-    let byte = value(d, sample_at(stream, k + 14), address, image[at]);
-    answer_read(answers, k, byte);
-    Frame {
-        kind: 1,
-        clock: 18,
-        byte,
+    Sought {
         address,
+        place: array_address(address) as usize,
+        sample: sample_at(stream, k + 14),
     }
 }
 
@@ -122,37 +124,8 @@ fn clock_bus(
     BusAlone { place: k, frame: f }
 }
 
-// A step of the bus alone: an idle stretch or a whole read at once, or else a clock or none.
-fn step_bus(
-    d: Device,
-    image: &[u8],
-    stream: &[u8],
-    answers: &mut [u8],
-    f: Frame,
-    k: usize,
-    to: usize,
-) -> BusAlone
-    requires { ⌜ Room d (now image) (now stream) (now answers) to ⌝ }
-    requires { ⌜ k < to ⌝ }
-    ensures { λ r. ⌜ (r .place ≤ to)
-        × Alone d (now (image .entry)) (now (stream .entry)) k f (now (answers .entry)) (r .place) (r .frame) (now (answers .exit)) ⌝ }
-{
-    if stays_idle(f, sample_at(stream, k)) {
-        return BusAlone {
-            place: skip_idle(stream, answers, k, to),
-            frame: end_frame(f),
-        };
-    }
-    if is_whole_frame(stream, d.straps, 13, k, to, 18) {
-        return BusAlone {
-            place: k + 18,
-            frame: take_read(d, image, stream, answers, k),
-        };
-    }
-    clock_bus(d.straps, stream, answers, f, k, to)
-}
-
-// The bus alone, while nothing is due in the controller, step by step until one goes no further.
+// The bus alone, while nothing is due in the controller: idle stretches and whole reads at once, other clocks one by one until
+// it stops.
 fn run_bus_alone(
     d: Device,
     image: &[u8],
@@ -171,13 +144,31 @@ fn run_bus_alone(
     let mut f = d.frame;
     let mut k = from;
     while k < to {
-        let t = step_bus(d, image, stream, answers, f, k, to);
-        if t.place == k {
-            return t;
+        if stays_idle(f, sample_at(stream, k)) {
+            k = skip_idle(stream, answers, k, to);
+            f = end_frame(f);
+        } else if is_whole_frame(stream, d.straps, 13, k, to, 18) {
+            let r = sought_at(stream, k);
+            let address = r.address;
+            let at = r.place;
+            let byte = value(d, r.sample, address, image[at]);
+            answer_read(answers, k, byte);
+            f = Frame {
+                kind: 1,
+                clock: 18,
+                byte,
+                address,
+            };
+            k += 18;
+        } else {
+            let t = clock_bus(d.straps, stream, answers, f, k, to);
+            if t.place == k {
+                return t;
+            }
+            let next = t.frame;
+            f = next;
+            k = t.place;
         }
-        let next = t.frame;
-        f = next;
-        k = t.place;
     }
     BusAlone { place: k, frame: f }
 }
