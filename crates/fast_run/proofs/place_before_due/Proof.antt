@@ -23,6 +23,9 @@ at-most a b r e =
           let x : r ≡ b = rw t at e in (omega arith, omega arith)
     ]
 
+returns : tie.Need-returns
+returns c = let l = at-most _ _ _ (c .lesser .ensures) in (omega arith, omega arith, omega arith)
+
 pub place-before-due-spec : {M : Type 1} → statement M
 place-before-due-spec =
     tie.close
@@ -32,4 +35,4 @@ place-before-due-spec =
     (λ c. search needs)
     (λ c κs. search needs)
     (λ c. let l = at-most _ _ _ (c .lesser .ensures) in omega arith)
-    (λ c. let l = at-most _ _ _ (c .lesser .ensures) in (omega arith, omega arith, omega arith)))
+    returns)
