@@ -44,13 +44,6 @@ reads i = sym (i .before .is-whole-frame .ensures) ∙ i .if2 .taken
 lies : (i : tie.Then2 Inv-loop μ-loop) → let w = i .before .before .before .before .before .before in w .loop .k + 18 ≤ start w .args .to
 lies i = let h = whole-room _ _ _ _ _ _ (reads i) in omega arith
 
-skip-idle-requires : tie.Need-skip-idle-requires Inv-loop μ-loop
-skip-idle-requires c κs =
-    let r = room (c .before .before .before .before .before) in (search needs, (r .given, (r .wide, over _ _ (rests (c .before)) .0)))
-
-loop-less : tie.Need-loop-less Inv-loop μ-loop
-loop-less c = omega (arith, c .before .before .before .skip-idle .ensures)
-
 loop-again : tie.Need-loop-again Inv-loop μ-loop
 loop-again c =
     let x = c .before .before .before in
@@ -59,21 +52,6 @@ loop-again c =
     let q = x .skip-idle .ensures in
     let p = alone-rest _ _ _ (w .loop .k) _ _ _ _ _ (room w) (q .0) (q .1) (rests (x .before .before)) (q .2) (x .skip-idle .kept .1 .0) in
     (q .1, alone-on (z .args .d) (z .args .to) (z .pre .1 .1) (q .1) (w .loop .inv .1) (rw (c .end-frame .ensures) p))
-
-sought-at-requires : tie.Need-sought-at-requires Inv-loop μ-loop
-sought-at-requires c κs = omega (arith, lies c, start (c .before .before .before .before .before .before) .pre)
-
-shared-slice-read-value : tie.Need-shared-slice-read-value Inv-loop μ-loop
-shared-slice-read-value c = omega (arith, c .before .sought-at .ensures, c .before .before .before .before .before .before .before .before .before .before .before .before .before .pre)
-
-answer-read-requires : tie.Need-answer-read-requires Inv-loop μ-loop
-answer-read-requires c κs = let i = c .before .before .before .before in omega (arith, lies i, room (i .before .before .before .before .before .before))
-
-add-k : tie.Need-add-k Inv-loop μ-loop
-add-k c = omega (arith, lies (c .before .before .before .before .before .before .before), c .before .before .before .before .before .before .before .before .before .before .before .before .before .before .before .before .before .before .pre)
-
-loop-less-2 : tie.Need-loop-less-2 Inv-loop μ-loop
-loop-less-2 c = omega (arith, lies (c .before .before .before .before .before .before .before))
 
 loop-again-2 : tie.Need-loop-again-2 Inv-loop μ-loop
 loop-again-2 c =
@@ -84,12 +62,6 @@ loop-again-2 c =
     let t = c .before .before in
     let p = alone-read (z .args .d) _ _ (w .loop .k) (w .loop .f) _ _ _ _ (room w) (reads i) (rw (r .0, r .1, r .2) at (c .before .before .before .before .value .ensures)) (t .answer-read .ensures) (t .answer-read .kept .0) in
     (lies i, alone-on (z .args .d) (z .args .to) (z .pre .1 .1) (lies i) (w .loop .inv .1) (rw (r .0) p))
-
-clock-bus-requires : tie.Need-clock-bus-requires Inv-loop μ-loop
-clock-bus-requires c κs = let r = room (c .before .before .before .before .before .before .before) in (search needs, (r .given, r .wide))
-
-same-length : tie.Need-same-length Inv-loop μ-loop
-same-length c = let t = c .before .before .before .before in t .clock-bus .kept .1 .1 .0 ∙ t .before .before .before .before .before .before .before .before .loop .inv .1 .size
 
 returns : tie.Need-returns Inv-loop μ-loop
 returns c =
@@ -122,20 +94,20 @@ run-bus-alone-spec =
     loop-holds
     (λ c κs. search needs)
     (λ c κs. tt)
-    skip-idle-requires
+    (λ c κs. let r = room (c .before .before .before .before .before) in (search needs, (r .given, (r .wide, over _ _ (rests (c .before)) .0))))
     (λ c κs. tt)
-    loop-less
+    (λ c. omega (arith, c .before .before .before .skip-idle .ensures))
     loop-again
     (λ c κs. search needs)
-    sought-at-requires
-    shared-slice-read-value
+    (λ c κs. omega (arith, lies c, start (c .before .before .before .before .before .before) .pre))
+    (λ c. omega (arith, c .before .sought-at .ensures, c .before .before .before .before .before .before .before .before .before .before .before .before .before .pre))
     (λ c κs. tt)
-    answer-read-requires
-    add-k
-    loop-less-2
+    (λ c κs. let i = c .before .before .before .before in omega (arith, lies i, room (i .before .before .before .before .before .before)))
+    (λ c. omega (arith, lies (c .before .before .before .before .before .before .before), c .before .before .before .before .before .before .before .before .before .before .before .before .before .before .before .before .before .before .pre))
+    (λ c. omega (arith, lies (c .before .before .before .before .before .before .before)))
     loop-again-2
-    clock-bus-requires
-    same-length
+    (λ c κs. let r = room (c .before .before .before .before .before .before .before) in (search needs, (r .given, r .wide)))
+    (λ c. let t = c .before .before .before .before in t .clock-bus .kept .1 .1 .0 ∙ t .before .before .before .before .before .before .before .before .loop .inv .1 .size)
     returns
     loop-less-3
     loop-again-3

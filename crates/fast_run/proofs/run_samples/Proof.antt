@@ -22,9 +22,6 @@ Inv-loop image₀ stream answers₀ n d₀ k₀ image answers d k =
 abbrev μ-loop : tie.MeasureT-loop
 μ-loop image₀ stream answers₀ n d₀ k₀ image answers d k = n - k
 
-loop-holds : tie.Need-loop-holds Inv-loop μ-loop
-loop-holds c = (omega arith, refl, c .before .before .before .pre .0, stays _ _ _ _)
-
 run-stretch-requires : tie.Need-run-stretch-requires Inv-loop μ-loop
 run-stretch-requires c κs =
     let w = c .before .before .before in
@@ -41,11 +38,6 @@ run-stretch-requires c κs =
       omega (arith, i),
     )
 
-loop-less : tie.Need-loop-less Inv-loop μ-loop
-loop-less c =
-    let x = c .before .before .before .before .before .run-stretch .ensures in
-    omega (arith, x .further, x .within)
-
 loop-again : tie.Need-loop-again Inv-loop μ-loop
 loop-again c =
     let t = c .before .before .before .before .before in
@@ -54,12 +46,6 @@ loop-again c =
     let m = w .loop .inv in
     let q = x .simulates in
     (x .within, omega (arith, t .run-stretch .kept .1 .0, m .1), q .kept (m .2), simulates-on (m .3) q)
-
-same-length : tie.Need-same-length Inv-loop μ-loop
-same-length c = c .before .loop .inv .1
-
-same-length-2 : tie.Need-same-length-2 Inv-loop μ-loop
-same-length-2 c = c .before .loop .inv .3 .size
 
 returns : tie.Need-returns Inv-loop μ-loop
 returns c =
@@ -77,10 +63,10 @@ run-samples-spec =
     (tie.spec
     Inv-loop
     μ-loop
-    loop-holds
+    (λ c. (omega arith, refl, c .before .before .before .pre .0, stays _ _ _ _))
     run-stretch-requires
-    loop-less
+    (λ c. let x = c .before .before .before .before .before .run-stretch .ensures in omega (arith, x .further, x .within))
     loop-again
-    same-length
-    same-length-2
+    (λ c. c .before .loop .inv .1)
+    (λ c. c .before .loop .inv .3 .size)
     returns)

@@ -5,11 +5,6 @@ use Rattle.fast_run.proofs.Steps.{over, rest-step}
 use Rattle.fast_run.proofs.stretch_idle.Statement.{statement}
 use Rattle.fast_run.proofs.stretch_idle.Tie as tie
 
-skip-idle-requires : tie.Need-skip-idle-requires
-skip-idle-requires c κs =
-    let z = c .before .before .before .before in
-    (search needs, (search needs, (search needs, over _ _ (z .pre .1 .1 .1) .0)))
-
 returns : tie.Need-returns
 returns c =
     let x = c .before .before .before .before .before .before .before in
@@ -26,7 +21,7 @@ pub stretch-idle-spec : {M : Type 1} → statement M
 stretch-idle-spec =
     tie.close
     (tie.spec
-    skip-idle-requires
+    (λ c κs. let z = c .before .before .before .before in (search needs, (search needs, (search needs, over _ _ (z .pre .1 .1 .1) .0))))
     (λ c κs. tt)
     (λ c. search needs)
     (λ c. search needs)

@@ -5,16 +5,6 @@ use Rattle.fast_run.proofs.Steps.{write-step}
 use Rattle.fast_run.proofs.stretch_write.Statement.{statement}
 use Rattle.fast_run.proofs.stretch_write.Tie as tie
 
-fill-requires : tie.Need-fill-requires
-fill-requires c κs =
-    let z = c .before .before .before .before .before .before .before .before .before .before .before .before .before in
-    omega (arith, z .pre)
-
-add-t15 : tie.Need-add-t15
-add-t15 c =
-    let z = c .before .before .before .before .before .before .before .before .before .before .before .before .before .before .before .before in
-    omega (arith, z .pre)
-
 returns : tie.Need-returns
 returns c =
     let r = c .before .before .before .before .before in
@@ -39,8 +29,8 @@ stretch-write-spec =
     (λ c. search needs)
     (λ c κs. search needs)
     (λ c κs. tt)
-    fill-requires
-    add-t15
+    (λ c κs. let z = c .before .before .before .before .before .before .before .before .before .before .before .before .before in omega (arith, z .pre))
+    (λ c. let z = c .before .before .before .before .before .before .before .before .before .before .before .before .before .before .before .before in omega (arith, z .pre))
     (λ c. c .before .before .before .before .before .before .before .before .before .device-later .kept .1 .0)
     (λ c. c .before .before .fill .kept .0)
     returns)
