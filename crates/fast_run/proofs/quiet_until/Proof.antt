@@ -23,6 +23,9 @@ at-most a b r e =
           let x : r ≡ b = rw t at e in (omega arith, omega arith)
     ]
 
+returns : tie.Need-returns
+returns c = let l = at-most _ _ _ (c .lesser .ensures) in (omega arith, omega arith, omega arith)
+
 pub quiet-until-spec : {M : Type 1} → statement M
 quiet-until-spec =
     tie.close
@@ -32,4 +35,4 @@ quiet-until-spec =
     (λ c. search needs)
     (λ c κs. search needs)
     (λ c. let l = at-most _ _ _ (c .lesser .ensures) in omega arith)
-    (λ c. let l = at-most _ _ _ (c .lesser .ensures) in (omega arith, omega arith, omega arith)))
+    returns)
