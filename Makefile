@@ -1,20 +1,24 @@
 # Builds the proved library and the C host around it, and runs their tests.
 #
-#   make test      everything from nothing: proofs, must-fail edits, library, host tests; ends with 'N passed, 0 failed'
-#   make demo      the main job, on data of the repository
-#   make lib       the proved library as a C archive
-#   make host      the host's programs
-#   make quick     the host's tests alone, with the library that is there
-#   make fuzz      the library against the C model on random traffic, until stopped; FUZZ_SEED says where to begin
-#   make bench     how fast the library is, beside the C model
-#   make flashrom  flashrom writes and verifies the whole part, some minutes long
-#   make tidy      cppcheck and clang-tidy over the host
+#   make test        everything from nothing: proofs, must-fail edits, library, host tests; ends with 'N passed, 0 failed'
+#   make demo        the main job, on data of the repository
+#   make lib         the proved library as a C archive
+#   make host        the host's programs
+#   make install     library, header, pkg-config file, bay and its manual page under PREFIX
+#   make quick       the host's tests alone, with the library that is there
+#   make checked     the host's programs with the address and undefined-behaviour sanitizers, in build/checked
+#   make fuzz        the library against the C model on random traffic, until stopped; FUZZ_SEED says where to begin
+#   make fuzz-host   what reads files and sockets, on spoiled ones, for FUZZ_SECONDS seconds
+#   make bench       how fast the library is, beside the C model
+#   make flashrom    flashrom writes and verifies the whole part, some minutes long
+#   make lint        every check that no compiler makes, over all files
 #   make clean
 
-POD_LIB   := target/staticlib/libpod.a
-CFLAGS    := -std=c11 -O2 -Wall -Wextra -Wconversion -Werror
-CPPFLAGS  := -D_XOPEN_SOURCE=700 -Ihost
-FUZZ_SEED ?= 1000000
+POD_LIB      := target/staticlib/libpod.a
+BUILD        ?= build
+PREFIX       ?= /usr/local
+FUZZ_SEED    ?= 1000000
+FUZZ_SECONDS ?= 600
 
 # The archive is for x86-64. On a machine of another kind a program is cross-compiled, and build/NAME is a script that
 # runs it under an emulator.
@@ -27,7 +31,23 @@ CC := tools/cross-cc
 AR := x86_64-linux-gnu-ar
 endif
 
-.PHONY: test quick lib setup host demo fuzz bench flashrom tidy clean
+CFLAGS   := -std=c11 -O2 -Wall -Wextra -Wconversion -Werror
+CPPFLAGS := -D_XOPEN_SOURCE=700 -Ihost
+
+ifdef CHECKED
+# The same programs, watched while they run: the first access outside an object or undefined act ends them.
+CFLAGS  += -O1 -g -fno-omit-frame-pointer -fsanitize=address,undefined -fno-sanitize-recover=all
+else
+# What stands between a fault of bay and whoever would use it.
+HARDEN      := -U_FORTIFY_SOURCE -D_FORTIFY_SOURCE=2 -fstack-protector-strong -fstack-clash-protection -fPIE
+HARDEN_LINK := -Wl,-z,relro,-z,now,-z,noexecstack
+ifeq ($(MACHINE),x86_64)
+HARDEN      += -fcf-protection
+HARDEN_LINK += -pie
+endif
+endif
+
+.PHONY: test quick lib setup host install demo checked fuzz fuzz-host bench flashrom lint clean
 .DELETE_ON_ERROR:
 
 test:
@@ -53,33 +73,46 @@ $(POD_LIB): crates.txt $(shell find crates -name '*.rt' -o -name '*.antt') | set
 	@cd $(@D) && $(AR) x libinplace.a && $(AR) rcs libpod.a inplace.o && rm -f inplace.o
 endif
 
-# ---- The host's programs.
+# ---- The host's programs: what is under host/, folder by folder.
 
-CHECKS   := $(addprefix build/,layout_test ground_test step_test operation_test case diff speed)
-BAY      := $(addprefix build/,bay lay poke)
-PROGRAMS := $(CHECKS) $(BAY)
+objects = $(patsubst host/%.c,$(BUILD)/obj/%.o,$(wildcard $(addprefix host/,$(1))))
 
-compile = @mkdir -p build && echo "CC $@" && $(CC) $(CFLAGS) $(CPPFLAGS) -o $@
+# What several programs share; a linker takes from it what a program names.
+KIT      := $(BUILD)/kit.a
+TESTS    := $(patsubst host/test/%.c,%,$(wildcard host/test/*_test.c))
+PROGRAMS := $(addprefix $(BUILD)/,$(TESTS) case diff speed bay lay poke fuzz)
 
-host: $(PROGRAMS) build/traces
+host: $(PROGRAMS) $(BUILD)/traces
 
-# One rule for every program; the lines behind it say what each is made of.
-$(PROGRAMS): $(wildcard host/*.h) $(POD_LIB) | setup
-	$(compile) $(filter %.c %.o,$^) $(POD_LIB)
+$(KIT): $(filter-out %_test.o,$(call objects,bus/*.c test/*.c model.c))
+	@rm -f $@ && $(AR) rcs $@ $^
 
-$(CHECKS): build/%: host/%.c
-build/diff build/speed: build/model.o
-$(BAY): $(wildcard host/bay/*.h)
-build/bay: $(wildcard host/bay/*.c)
-build/lay: host/bay/test/lay.c host/bay/frames.c   # makes streams from scripts
-build/poke: host/bay/test/poke.c                   # a client for the tests of the server
+$(PROGRAMS): $(KIT) $(POD_LIB)
+	@echo "LD $@" && $(CC) $(CFLAGS) $(LINK) -o $@ $(filter %.o,$^) $(KIT) $(POD_LIB)
 
-build/model.o: host/model.c host/model.h | setup
-	$(compile) -c $<
+$(addprefix $(BUILD)/,$(TESTS)): $(BUILD)/%: $(BUILD)/obj/test/%.o
+$(BUILD)/case: $(call objects,case/*.c)
+$(BUILD)/diff: $(call objects,diff/*.c)
+$(BUILD)/speed: $(call objects,speed/*.c)
+$(BUILD)/bay: $(call objects,bay/*.c)
+$(BUILD)/lay: $(call objects,bay/test/lay.c)     # makes streams from scripts
+$(BUILD)/poke: $(call objects,bay/test/poke.c)   # a client for the tests of the server
+$(BUILD)/fuzz: $(call objects,fuzz/*.c) $(filter-out %/main.o,$(call objects,bay/*.c))
+
+$(BUILD)/bay: LINK := $(HARDEN_LINK)
+$(call objects,bay/*.c bus/*.c): CFLAGS += $(HARDEN)
+
+$(BUILD)/obj/%.o: host/%.c | setup
+	@mkdir -p $(@D) && echo "CC $<" && $(CC) $(CFLAGS) $(CPPFLAGS) -MMD -MP -c -o $@ $<
+
+-include $(shell find $(BUILD)/obj -name '*.d' 2>/dev/null)
 
 # Traces of the differential test. So few clocks are not held to reach all that its traces are for.
-build/traces: build/diff
+$(BUILD)/traces: $(BUILD)/diff
 	@$< --clocks 900000 --record $@ >$@.log || { cat $@.log; exit 1; }
+
+checked:
+	@$(MAKE) --no-print-directory BUILD=build/checked CHECKED=1 host
 
 # ---- Jobs.
 
@@ -89,22 +122,21 @@ demo: build/bay
 fuzz: build/diff
 	@$< --seed $(FUZZ_SEED) --forever
 
+fuzz-host: checked
+	@build/checked/fuzz --seconds $(FUZZ_SECONDS) host/fuzz/seeds
+
 bench: build/speed build/traces
 	@$< --machine '$(MACHINE)' --flags '$(CFLAGS)' build/traces
 	@printf '\n## How the time of rt ci divides among the crates\n\n'
 	@if [ -f build/log/rt-ci ]; then tools/shares build/log/rt-ci; else \
 	    echo 'No log of rt ci is here: make test writes one, build/log/rt-ci.'; fi
 
-flashrom: $(BAY)
+flashrom: build/bay build/lay build/poke
 	@host/bay/test/flashrom.sh all
 
-C_FILES    := $(sort $(wildcard host/*.c host/bay/*.c host/bay/test/*.c))
-TIDY_FLAGS := $(CPPFLAGS) -Ihost/bay
-
-tidy:
-	@tools/setup tidy
-	@cppcheck -q --std=c11 --enable=warning,style,performance,portability --error-exitcode=1 $(TIDY_FLAGS) $(C_FILES)
-	@clang-tidy --quiet $(C_FILES) -- -std=c11 $(TIDY_FLAGS)
+lint:
+	@tools/setup lint tidy
+	@tools/lint
 
 clean:
 	rm -rf build target

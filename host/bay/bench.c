@@ -1,8 +1,8 @@
 /* Frames and rests on one part. */
 #include "bench.h"
 
-#include "frames.h"
-#include "sample.h"
+#include "bus/frames.h"
+#include "bus/pins.h"
 
 void bench_power_up(struct bench *bench, const struct settings *settings)
 {
@@ -22,14 +22,14 @@ static uint8_t lay(struct bench *bench, const struct frame *frame)
 {
     uint16_t samples[FRAME_MOST_CLOCKS];
     size_t clocks = frame_lay(frame, bench->idle, samples);
-    uint32_t nibbles[2] = { ANSWER_LINES, ANSWER_LINES };
+    uint32_t nibbles[2] = { POD_ANSWER_LINES, POD_ANSWER_LINES };
     for (size_t i = 0; i < clocks && bench->refusal == 0; i++) {
         struct pod_clocked clocked = pod_clock(&bench->device, bench->image, bench->image_length, samples[i]);
         bench->refusal = clocked.number;
         bench->clock++;
         size_t data = i + 1 - FRAME_CLOCK_READ;
-        if (i + 1 >= FRAME_CLOCK_READ && data < 2 && (clocked.answer & ANSWER_DRIVEN) != 0) {
-            nibbles[data] = clocked.answer & ANSWER_LINES;
+        if (i + 1 >= FRAME_CLOCK_READ && data < 2 && (clocked.answer & POD_ANSWER_DRIVEN) != 0) {
+            nibbles[data] = clocked.answer & POD_ANSWER_LINES;
         }
     }
     return (uint8_t)(nibbles[0] | nibbles[1] << 4);
@@ -37,12 +37,14 @@ static uint8_t lay(struct bench *bench, const struct frame *frame)
 
 uint8_t bench_read(struct bench *bench, uint32_t address)
 {
-    return lay(bench, &(struct frame){ .write = false, .select = bench->select, .address = address });
+    struct frame frame = frame_read(bench->select, address);
+    return lay(bench, &frame);
 }
 
 void bench_write(struct bench *bench, uint32_t address, uint8_t byte)
 {
-    (void)lay(bench, &(struct frame){ .write = true, .select = bench->select, .address = address, .byte = byte });
+    struct frame frame = frame_write(bench->select, address, byte);
+    (void)lay(bench, &frame);
 }
 
 /* Rests until the part is ready or the clocks are over; gives the clocks that were not needed. Frames are laid whole,

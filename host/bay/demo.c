@@ -4,7 +4,8 @@
 #include "commands.h"
 #include "files.h"
 #include "options.h"
-#include "sample.h"
+#include "bus/addresses.h"
+#include "bus/pins.h"
 #include "text.h"
 #include "words.h"
 
@@ -41,16 +42,6 @@ struct stock {
     uint8_t *page;
 };
 
-static uint32_t array_address(unsigned block)
-{
-    return 0xFF00000U + block * POD_BLOCK_BYTES;
-}
-
-static uint32_t lock_address(unsigned block)
-{
-    return 0xFB00002U + block * POD_BLOCK_BYTES;
-}
-
 /* No byte of the old firmware is FFh, so that a blank byte is one that an erase has filled. */
 static void fill(uint8_t *firmware)
 {
@@ -83,8 +74,8 @@ static void erase(struct bench *bench, struct night *night)
 {
     rest_until(bench, night->begun);
     bench_write(bench, lock_address(night->block), 0x00);
-    bench_write(bench, array_address(night->block), 0x20);
-    bench_write(bench, array_address(night->block), 0xD0);
+    bench_write(bench, array_address(night->block * POD_BLOCK_BYTES), 0x20);
+    bench_write(bench, array_address(night->block * POD_BLOCK_BYTES), 0xD0);
     night->begun = bench->clock;
 }
 
@@ -98,13 +89,13 @@ static void live(struct bench *bench, const struct stock *stock, struct night *n
     }
     if (pauses) {
         rest_until(bench, night->begun + NAP);
-        bench_write(bench, array_address(night->block), 0xB0);
+        bench_write(bench, array_address(night->block * POD_BLOCK_BYTES), 0xB0);
     }
     rest_until(bench, PULL);
     night->blank_at_pull = blank_bytes(bench, stock->page, night->block);
-    bench->idle = sample_set(bench->idle, SAMPLE_WP, 0);
+    bench->idle = sample_set(bench->idle, POD_SAMPLE_WP, 0);
     if (pauses) {
-        bench_write(bench, array_address(night->block), 0xD0);
+        bench_write(bench, array_address(night->block * POD_BLOCK_BYTES), 0xD0);
     }
     if (!early) {
         erase(bench, night);
@@ -180,7 +171,7 @@ static int show(struct text *text, const struct stock *stock, uint8_t *image)
     memset(nights, 0, sizeof nights);
     tell_story(text);
     for (unsigned i = 0; i < BAYS; i++) {
-        struct bench bench = { .image = image, .image_length = POD_IMAGE_BYTES, .idle = SAMPLE_IDLE };
+        struct bench bench = { .image = image, .image_length = POD_IMAGE_BYTES, .idle = POD_SAMPLE_IDLE };
         nights[i].bay = i + 1;
         nights[i].block = i;
         nights[i].begun = (i + 1ULL) * SPREAD;

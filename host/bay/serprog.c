@@ -1,7 +1,7 @@
 /* Requests of a serprog client, turned into frames and rests on the bench. */
 #include "serprog.h"
 
-#include "sample.h"
+#include "bus/pins.h"
 
 #include <string.h>
 
@@ -203,7 +203,7 @@ static size_t carry_out(struct bench *bench, const uint8_t *at)
         return 5;
     }
     if (at[0] == OP_DELAY) {
-        bench_rest(bench, (uint64_t)(number24(p) | (uint32_t)p[3] << 24) * CLOCKS_IN_MICROSECOND);
+        bench_rest(bench, (uint64_t)(number24(p) | (uint32_t)p[3] << 24) * POD_CLOCKS_PER_MICROSECOND);
         return 5;
     }
     uint32_t length = number24(p);

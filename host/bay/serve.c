@@ -4,7 +4,7 @@
 #include "files.h"
 #include "link.h"
 #include "options.h"
-#include "sample.h"
+#include "bus/pins.h"
 #include "serprog.h"
 #include "signals.h"
 #include "text.h"
@@ -152,7 +152,7 @@ static const char *serve_client(struct server *server, int client)
     link.until = server->until;
     serprog.link = &link;
     serprog.bench = &server->bench;
-    serprog.rest = (uint64_t)server->rest * CLOCKS_IN_MICROSECOND;
+    serprog.rest = (uint64_t)server->rest * POD_CLOCKS_PER_MICROSECOND;
     if (fcntl(client, F_SETFL, O_NONBLOCK) != 0 || setsockopt(client, IPPROTO_TCP, TCP_NODELAY, &yes, sizeof yes) != 0) {
         link.why = "the line broke";
     } else {
@@ -272,14 +272,14 @@ static int take_pin(const char *option, const char *word, unsigned pin, uint16_t
 static int take_pins(const struct asked *asked, uint16_t *idle)
 {
     uint32_t voltage = sample_voltage(*idle);
-    int status = take_pin("--wp", asked->wp, SAMPLE_WP, idle);
+    int status = take_pin("--wp", asked->wp, POD_SAMPLE_WP, idle);
     if (status == 0) {
-        status = take_pin("--tbl", asked->tbl, SAMPLE_TBL, idle);
+        status = take_pin("--tbl", asked->tbl, POD_SAMPLE_TBL, idle);
     }
     if (status == 0 && asked->voltage != NULL) {
         status = number_within("--voltage", asked->voltage, (struct bounds){ 0, 3 }, &voltage);
     }
-    *idle = sample_set(*idle, SAMPLE_VOLTAGE, voltage << SAMPLE_VOLTAGE_AT);
+    *idle = sample_set(*idle, POD_SAMPLE_VOLTAGE, voltage << POD_SAMPLE_VOLTAGE_SHIFT);
     return status;
 }
 
@@ -341,7 +341,7 @@ int command_serve(int count, char **words)
     };
     const struct place places[] = { { "IMAGE", &server.image } };
     const struct line line = { options, sizeof options / sizeof options[0], places, 1 };
-    server.bench.idle = SAMPLE_IDLE;
+    server.bench.idle = POD_SAMPLE_IDLE;
     int status = options_take(&line, count, words);
     if (status == 0) {
         status = check(&asked, &server);

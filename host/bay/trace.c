@@ -1,9 +1,9 @@
 /* bay trace: every frame of a stream in words, and the run as a waveform if that is wanted. */
 #include "commands.h"
-#include "frames.h"
+#include "bus/frames.h"
 #include "load.h"
 #include "options.h"
-#include "sample.h"
+#include "bus/pins.h"
 #include "text.h"
 #include "trouble.h"
 #include "vcd.h"
@@ -101,8 +101,8 @@ static bool follow_bus(struct tracer *tracer, const struct happened *now)
 {
     struct watched *watched = &tracer->watched;
     uint16_t sample = now->seen.sample;
-    bool reset = !sample_has(sample, SAMPLE_RP) || !sample_has(sample, SAMPLE_INIT);
-    bool low = !sample_has(sample, SAMPLE_FRAME);
+    bool reset = !sample_has(sample, POD_SAMPLE_RP) || !sample_has(sample, POD_SAMPLE_INIT);
+    bool low = !sample_has(sample, POD_SAMPLE_FRAME);
     bool breaks = watched->clock != 0 && (reset || low);
     if (breaks) {
         tell_broken_frame(tracer, reset ? "reset" : "aborted");
@@ -113,7 +113,7 @@ static bool follow_bus(struct tracer *tracer, const struct happened *now)
     if (low) {
         tracer->began = now->clock;
         if (!watch_begin(watched, sample) && !breaks) {
-            text_add(&tracer->text, "clock %6zu  start  %Xh begins no frame\n", now->clock, sample & SAMPLE_LINES);
+            text_add(&tracer->text, "clock %6zu  start  %Xh begins no frame\n", now->clock, sample & POD_SAMPLE_LINES);
         }
         return false;
     }

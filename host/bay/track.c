@@ -2,7 +2,7 @@
 #include "track.h"
 
 #include "files.h"
-#include "sample.h"
+#include "bus/pins.h"
 #include "settings.h"
 #include "text.h"
 #include "trouble.h"
@@ -44,7 +44,7 @@ static bool take_setting(struct pull *pull, const char *name, const char *value)
     static const struct {
         const char *name;
         unsigned pin;
-    } pins[] = { { "wp", SAMPLE_WP }, { "tbl", SAMPLE_TBL } };
+    } pins[] = { { "wp", POD_SAMPLE_WP }, { "tbl", POD_SAMPLE_TBL } };
     unsigned mask = 0;
     unsigned bits = 0;
     if (value == NULL) {
@@ -58,8 +58,8 @@ static bool take_setting(struct pull *pull, const char *name, const char *value)
     }
     uint32_t voltage = 0;
     if (strcmp(name, "voltage") == 0 && number_take(value, &voltage) && voltage <= 3) {
-        mask = SAMPLE_VOLTAGE;
-        bits = voltage << SAMPLE_VOLTAGE_AT;
+        mask = POD_SAMPLE_VOLTAGE;
+        bits = voltage << POD_SAMPLE_VOLTAGE_SHIFT;
     }
     pull->mask = (uint16_t)(pull->mask | mask);
     pull->value = (uint16_t)sample_set(pull->value, mask, bits);

@@ -36,7 +36,7 @@ static const char *wire_name(unsigned wire)
 /* When a clock begins, in nanoseconds: 33 clocks are a microsecond. Its second half has clk high. */
 static unsigned long long start_of(uint64_t clock)
 {
-    return clock * 1000U / CLOCKS_IN_MICROSECOND;
+    return clock * 1000U / POD_CLOCKS_PER_MICROSECOND;
 }
 
 void vcd_begin(struct vcd *vcd)
@@ -68,7 +68,7 @@ static void set(struct vcd *vcd, unsigned wire, char sign)
 void vcd_add(struct vcd *vcd, const struct seen *seen, uint32_t status)
 {
     unsigned sample = seen->sample;
-    bool driven = (seen->answer & ANSWER_DRIVEN) != 0;
+    bool driven = (seen->answer & POD_ANSWER_DRIVEN) != 0;
     text_add(&vcd->text, "#%llu\n", start_of(vcd->clock));
     set(vcd, CLK, '0');
     set(vcd, FRAME, level(sample, 4));
@@ -85,8 +85,8 @@ void vcd_add(struct vcd *vcd, const struct seen *seen, uint32_t status)
     set(vcd, INIT, level(sample, 6));
     set(vcd, TBL, level(sample, 7));
     set(vcd, WP, level(sample, 8));
-    set(vcd, VOLTAGE, level(sample, SAMPLE_VOLTAGE_AT));
-    set(vcd, VOLTAGE + 1, level(sample, SAMPLE_VOLTAGE_AT + 1));
+    set(vcd, VOLTAGE, level(sample, POD_SAMPLE_VOLTAGE_SHIFT));
+    set(vcd, VOLTAGE + 1, level(sample, POD_SAMPLE_VOLTAGE_SHIFT + 1));
     for (unsigned bit = STATUS_LOW; bit <= STATUS_HIGH; bit++) {
         set(vcd, STATUS + STATUS_HIGH - bit, level(status, bit));
     }

@@ -2,7 +2,7 @@
 #ifndef BAY_VCD_H
 #define BAY_VCD_H
 
-#include "sample.h"
+#include "bus/pins.h"
 #include "text.h"
 
 #include <stdint.h>

@@ -2,7 +2,7 @@
 #include "words.h"
 
 #include "pod.h"
-#include "sample.h"
+#include "bus/pins.h"
 #include "trouble.h"
 
 #include <stdarg.h>
@@ -97,7 +97,7 @@ struct brief brief_pins(uint16_t sample, const uint16_t *before)
     static const struct {
         unsigned pin;
         const char *name;
-    } pins[] = { { SAMPLE_RP, "RP" }, { SAMPLE_INIT, "INIT" }, { SAMPLE_TBL, "TBL" }, { SAMPLE_WP, "WP" } };
+    } pins[] = { { POD_SAMPLE_RP, "RP" }, { POD_SAMPLE_INIT, "INIT" }, { POD_SAMPLE_TBL, "TBL" }, { POD_SAMPLE_WP, "WP" } };
     struct brief out = { "" };
     unsigned moved = before == NULL ? 0xFFFFU : (unsigned)sample ^ *before;
     const char *comma = "";
@@ -107,11 +107,11 @@ struct brief brief_pins(uint16_t sample, const uint16_t *before)
             comma = ", ";
         }
     }
-    if ((moved & SAMPLE_VOLTAGE) != 0) {
+    if ((moved & POD_SAMPLE_VOLTAGE) != 0) {
         brief_add(&out, "%svoltage %s", comma, voltages[sample_voltage(sample)]);
         comma = ", ";
     }
-    if (moved >> SAMPLE_INPUTS_AT != 0) {
+    if (moved >> POD_SAMPLE_INPUTS_SHIFT != 0) {
         brief_add(&out, "%sinputs %02Xh", comma, sample_inputs(sample));
     }
     return out;

@@ -1,26 +1,9 @@
-/* lay: makes a stream for the tests from a script on the standard input.
- *
- *     write ADDRESS BYTE    read ADDRESS         frames; numbers here are hexadecimal
- *     wait N                                     N idle samples, decimal
- *     cut N                                      the next frame is aborted on its clock N
- *     straps N                                   the device select of frames from here on
- *     size N                                     the size nibble of frames from here on
- *     rp|init|tbl|wp high|low    voltage N    inputs N
- *     sample HEX                                 one sample as it is */
-#include "../frames.h"
-#include "../sample.h"
+/* lay: makes a stream from a script on the standard input, in the language of the cases (a stand-in until it is shared). */
+#include "bus/frames.h"
 
-#include <stdbool.h>
 #include <stdio.h>
 #include <stdlib.h>
 #include <string.h>
-
-struct script {
-    uint16_t idle;
-    uint8_t select;
-    uint8_t size;
-    unsigned cut;
-};
 
 static void put(uint16_t sample)
 {
@@ -31,88 +14,64 @@ static void put(uint16_t sample)
     }
 }
 
-static void put_frame(struct script *s, struct frame frame)
+static void put_frame(char **words, size_t count, uint16_t idle)
 {
-    uint16_t samples[FRAME_MOST_CLOCKS];
-    frame.select = s->select;
-    frame.size = s->size;
-    size_t clocks = frame_lay(&frame, s->idle, samples);
-    if (s->cut != 0 && s->cut <= clocks) {
-        clocks = s->cut - 1;
-    }
-    for (size_t i = 0; i < clocks; i++) {
-        put(samples[i]);
-    }
-    if (s->cut != 0) {
-        put(sample_set(s->idle, SAMPLE_FRAME, 0));
-        s->cut = 0;
-    }
-}
-
-static bool set_pin(struct script *s, const char *const *words)
-{
-    static const struct {
-        const char *name;
-        unsigned pin;
-    } pins[] = { { "rp", SAMPLE_RP }, { "init", SAMPLE_INIT }, { "tbl", SAMPLE_TBL }, { "wp", SAMPLE_WP } };
-    for (size_t i = 0; i < sizeof pins / sizeof pins[0]; i++) {
-        if (strcmp(words[0], pins[i].name) == 0) {
-            s->idle = sample_set(s->idle, pins[i].pin, words[1][0] == 'h' ? pins[i].pin : 0);
-            return true;
+    size_t next = words[0][0] == 'w' ? 3 : 2;
+    unsigned broken = 0;
+    struct frame frame = next == 3 ? frame_write(0, (uint32_t)strtoul(words[1], NULL, 16), (uint8_t)strtoul(words[2], NULL, 16))
+                                   : frame_read(0, (uint32_t)strtoul(words[1], NULL, 16));
+    for (; next + 1 < count; next += 2) {
+        unsigned value = (unsigned)strtoul(words[next + 1], NULL, 16);
+        if (strcmp(words[next], "strap") == 0) {
+            frame.select = (uint8_t)value;
+        } else if (strcmp(words[next], "size") == 0) {
+            frame.size = (uint8_t)value;
+        } else if (strcmp(words[next], "break") == 0) {
+            broken = (unsigned)strtoul(words[next + 1], NULL, 10);
         }
     }
-    return false;
-}
-
-/* One line: a verb and two words behind it. */
-static bool obey(struct script *s, const char *const *words)
-{
-    const char *verb = words[0];
-    unsigned long hex = strtoul(words[1], NULL, 16);
-    unsigned long number = strtoul(words[1], NULL, 10);
-    if (strcmp(verb, "write") == 0) {
-        put_frame(s, (struct frame){ .write = true,
-                                     .address = (uint32_t)hex,
-                                     .byte = (uint8_t)strtoul(words[2], NULL, 16) });
-    } else if (strcmp(verb, "read") == 0) {
-        put_frame(s, (struct frame){ .address = (uint32_t)hex });
-    } else if (strcmp(verb, "wait") == 0) {
-        while (number-- > 0) {
-            put(s->idle);
-        }
-    } else if (strcmp(verb, "sample") == 0) {
-        put((uint16_t)hex);
-    } else if (strcmp(verb, "cut") == 0) {
-        s->cut = (unsigned)number;
-    } else if (strcmp(verb, "straps") == 0) {
-        s->select = (uint8_t)number;
-    } else if (strcmp(verb, "size") == 0) {
-        s->size = (uint8_t)number;
-    } else if (strcmp(verb, "voltage") == 0) {
-        s->idle = sample_set(s->idle, SAMPLE_VOLTAGE, (unsigned)number << SAMPLE_VOLTAGE_AT);
-    } else if (strcmp(verb, "inputs") == 0) {
-        s->idle = sample_set(s->idle, 0xF800, (unsigned)number << SAMPLE_INPUTS_AT);
-    } else {
-        return set_pin(s, words);
+    unsigned last = broken != 0 ? broken - 1 : frame_clocks(&frame);
+    for (unsigned clock = 1; clock <= last; clock++) {
+        put(frame_sample(&frame, clock, idle));
     }
-    return true;
+    if (broken != 0) {
+        put(frame_break(idle, 0xF));
+    }
 }
 
 int main(void)
 {
-    struct script script = { .idle = SAMPLE_IDLE };
+    uint16_t idle = POD_SAMPLE_IDLE;
     char line[256];
     while (fgets(line, sizeof line, stdin) != NULL) {
+        char *words[16], *rest = NULL;
+        size_t count = 0;
         line[strcspn(line, "#\n")] = '\0';
-        char *rest = NULL;
-        const char *words[3] = { strtok_r(line, " \t", &rest) };
-        words[1] = words[0] == NULL ? NULL : strtok_r(NULL, " \t", &rest);
-        words[2] = words[1] == NULL ? NULL : strtok_r(NULL, " \t", &rest);
-        if (words[2] == NULL) {
-            words[2] = "0";
+        for (char *w = strtok_r(line, " \t", &rest); w != NULL && count < 16; w = strtok_r(NULL, " \t", &rest)) {
+            words[count++] = w;
         }
-        if (words[0] != NULL && (words[1] == NULL || !obey(&script, words))) {
-            (void)fprintf(stderr, "lay: %s is not a line that is known\n", words[0]);
+        if (count == 0) {
+            continue;
+        }
+        const char *verb = words[0];
+        if (strcmp(verb, "write") == 0 || strcmp(verb, "read") == 0) {
+            put_frame(words, count, idle);
+        } else if (strcmp(verb, "idle") == 0) {
+            for (unsigned long n = strtoul(words[1], NULL, 10); n > 0; n--) {
+                put(idle);
+            }
+        } else if (strcmp(verb, "reset") == 0) {
+            put(sample_set(idle, pin_named(words[1])->mask, 0));
+        } else if (strcmp(verb, "raw") == 0) {
+            put((uint16_t)strtoul(words[1], NULL, 16));
+        } else if (strcmp(verb, "pin") == 0) {
+            idle = sample_set(idle, pin_named(words[1])->mask, words[2][0] == 'h' ? 0xFFFF : 0);
+        } else if (strcmp(verb, "voltage") == 0) {
+            idle = sample_with_voltage(idle, (unsigned)strtoul(words[1], NULL, 10));
+        } else if (strcmp(verb, "inputs") == 0) {
+            idle = sample_with_inputs(idle, (unsigned)strtoul(words[1], NULL, 16));
+        } else {
+            (void)fprintf(stderr, "lay: %s is not a line that is known\n", verb);
             return 64;
         }
     }

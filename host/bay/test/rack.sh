@@ -12,7 +12,7 @@ rack_folder() {
         cp board.img "$1/bay$bay.img"
         cp quick.sheet "$1/bay$bay.sheet"
         digit=$(printf %X $((${bay#0} - 1)))
-        printf 'wait %d\nwrite FB%s0002 00\nwrite FF%s0000 20\nwrite FF%s0000 D0\nwait 9000\n' \
+        printf 'idle %d\nwrite FB%s0002 00\nwrite FF%s0000 20\nwrite FF%s0000 D0\nidle 9000\n' \
             $((${bay#0} * 600)) "$digit" "$digit" "$digit" | lay >"$1/bay$bay.stream"
     done
 }
@@ -57,7 +57,7 @@ cp -r tonight bad
 head -c 1048575 board.img >bad/bay01.img
 head -c 37 tonight/bay02.stream >bad/bay02.stream
 rm bad/bay03.img
-{ cat tonight/bay05.stream; printf 'sample 07FF\n' | lay; } >bad/bay05.stream
+{ cat tonight/bay05.stream; printf 'raw 07FF\n' | lay; } >bad/bay05.stream
 echo nonsense >bad/bay06.sheet
 hex 01 01 00 10 02 06 00 0A 00 01 00 1E 00 >bad/bay07.sheet
 rm bad/bay08.*

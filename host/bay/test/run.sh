@@ -9,7 +9,7 @@ lay >erase.stream <<'END'
 write FB30002 00
 write FF30000 20
 write FF30000 D0
-wait 9000
+idle 9000
 END
 
 case_ "a maker register read is answered as the part answers it"
@@ -41,7 +41,7 @@ same after.img want
 same board.img kept.img
 
 case_ "a reset during an erase: the block is spoiled and the image keeps its length"
-{ printf 'write FB30002 00\nwrite FF30000 20\nwrite FF30000 D0\nwait 40\nrp low\nwait 1\n' | lay; } >reset.stream
+{ printf 'write FB30002 00\nwrite FF30000 20\nwrite FF30000 D0\nidle 40\nreset rp 1\n' | lay; } >reset.stream
 gives 0 bay run board.img reset.stream --times 10,1,30
 says out "spoiled  .  .  .  S  .  .  .  .  .  .  .  .  .  .  .  ."
 says out "changed  .  .  .  C  .  .  .  .  .  .  .  .  .  .  .  ."
@@ -58,10 +58,10 @@ says out "  bit 3  1  voltage           too low for a program or erase"
 printf 'write FF00000 40\nwrite FF00000 00\n' | lay >82.stream
 gives 0 bay run board.img 82.stream
 says out "  bit 1  1  block protection  a protected block was to be changed"
-printf 'write FB00002 00\nwrite FF00000 20\nwrite FF00000 D0\nwrite FF00000 B0\nwait 33\n' | lay >c0.stream
+printf 'write FB00002 00\nwrite FF00000 20\nwrite FF00000 D0\nwrite FF00000 B0\nidle 33\n' | lay >c0.stream
 gives 0 bay run board.img c0.stream --times 10,10,1
 says out "  bit 6  1  erase suspend     an erase is suspended"
-printf 'write FB00002 00\nwrite FF00000 40\nwrite FF00000 00\nwrite FF00000 B0\nwait 33\n' | lay >84.stream
+printf 'write FB00002 00\nwrite FF00000 40\nwrite FF00000 00\nwrite FF00000 B0\nidle 33\n' | lay >84.stream
 gives 0 bay run board.img 84.stream --times 10,10,1
 says out "  bit 2  1  program suspend   a program is suspended"
 printf 'write FB00002 00\nwrite FF00000 40\nwrite FF00000 00\n' | lay >00.stream
@@ -88,10 +88,10 @@ says out "status   80h"
 { [ -e none ] && [ ! -s none ]; } || wrong "the answers are not an empty file"
 
 case_ "the longest stream is done, and one sample more is refusal 5"
-printf 'wait 65536\n' | lay >long.stream
+printf 'idle 65536\n' | lay >long.stream
 gives 0 bay run board.img long.stream
 says out "samples  65,536 done"
-printf 'wait 65537\n' | lay >longer.stream
+printf 'idle 65537\n' | lay >longer.stream
 gives 5 bay run board.img longer.stream
 explains
 says err "found     more than 131,072 bytes"
@@ -129,7 +129,7 @@ says err "found     37 bytes"
 [ "$(cat save.img)" = old ] || wrong "save.img was written over"
 
 case_ "a sample of voltage class 3, even the last, is refusal 7"
-{ cat maker.stream; printf 'sample 07FF\n' | lay; } >class3.stream
+{ cat maker.stream; printf 'raw 07FF\n' | lay; } >class3.stream
 gives 7 bay run board.img class3.stream --save save.img
 explains
 says err "class 3 in sample 19"

@@ -8,33 +8,27 @@ lay >night.stream <<'END'
 write FB30002 00
 write FF30000 20
 write FF30000 D0
-wait 100
-wp low
-wait 8400
+idle 100
+pin wp low
+idle 8400
 read FF30000
 write FF50000 20
-cut 14              # a write that has acted by then
-write FF50000 D0
-cut 12              # and one that has not
-write FF00000 FF
-straps 3
-write FF00000 FF
-straps 0
-size 2
-read FFC0000
-size 0
+write FF50000 D0 break 14   # a write that has acted by then
+write FF00000 FF break 12   # and one that has not
+write FF00000 FF strap 3
+read FFC0000 size 2
 write FF00000 FF
 read FF2FFFF
 read FBC0000
 read FBC0001
-inputs 21
+inputs 15
 read FBC0100
 read FB30002
 read FB30003
-sample 03E7         # the frame line low with a nibble that starts nothing
+raw 03E7            # the frame line low with a nibble that starts nothing
 voltage 2
-tbl low
-wait 1
+pin tbl low
+idle 1
 read FBC0000
 END
 
@@ -72,18 +66,18 @@ same board.img kept.img
 
 case_ "a frame broken off on each of its clocks says on which"
 for clock in 2 3 4 5 6 7 8 9 10 11 12 13 14 15 16 17 18 19; do
-    printf 'cut %d\nread FF30000\n' $clock | lay >cut.stream
+    printf 'read FF30000 break %d\n' $clock | lay >cut.stream
     gives 0 bay trace board.img cut.stream
     says out "aborted on clock $clock"
 done
-printf 'cut 20\nread FF30000\n' | lay >cut.stream
+printf 'read FF30000\nraw 03EF\n' | lay >cut.stream
 gives 0 bay trace board.img cut.stream
 says out "read   array 30000h (block 3)        5Ah  answered"
 
 case_ "a reset that drops a frame and spoils a block, and a stream that ends within a frame"
-{ printf 'write FB30002 00\nwrite FF30000 20\nwrite FF30000 D0\nwait 40\n' | lay
+{ printf 'write FB30002 00\nwrite FF30000 20\nwrite FF30000 D0\nidle 40\n' | lay
   printf 'read FF30000\n' | lay | head -c 12
-  printf 'init low\nwait 1\ninit high\nwait 1\n' | lay
+  printf 'reset init 1\nidle 1\n' | lay
   printf 'read FF30000\n' | lay | head -c 12; } >reset.stream
 gives 0 bay trace board.img reset.stream
 says out "clock     91  read   -                             -    reset on clock 7"
@@ -106,7 +100,7 @@ if installed bay sigrok-cli; then
     done
     says out "Channels: 24"
     # the last three frames, sampled where clk rises, against the stream and the answers
-    printf 'read FBC0000\nwrite FB30002 00\ninputs 21\nvoltage 2\nwp low\nread FBC0100\n' | lay >small.stream
+    printf 'read FBC0000\nwrite FB30002 00\ninputs 15\nvoltage 2\npin wp low\nread FBC0100\n' | lay >small.stream
     gives 0 bay trace board.img small.stream --vcd small.vcd
     gives 0 bay run board.img small.stream --answers small.answers
     gives 0 sigrok-cli -I vcd -i small.vcd -O csv
@@ -137,7 +131,7 @@ explains
 head -c 37 night.stream >odd.stream
 gives 5 bay trace board.img odd.stream --vcd new.vcd
 explains
-{ cat night.stream; printf 'sample 07FF\n' | lay; } >class3.stream
+{ cat night.stream; printf 'raw 07FF\n' | lay; } >class3.stream
 gives 7 bay trace board.img class3.stream --vcd new.vcd
 explains
 gives 3 bay trace board.img night.stream --straps 16 --vcd new.vcd

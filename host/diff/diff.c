@@ -9,7 +9,7 @@
  * sheet, the number of samples in four bytes with the lowest first, and the samples. */
 #include "model.h"
 #include "pod.h"
-#include "same_device.h"
+#include "test/same_device.h"
 
 #include <inttypes.h>
 #include <stdarg.h>

@@ -1,6 +1,6 @@
 /* Tests one clock: frames and where they break off, registers, modes, commands, refusals, any device at all, and
  * document 01's ten examples. */
-#include "rig.h"
+#include "test/rig.h"
 
 /* ---- Frames. */
 

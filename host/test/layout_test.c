@@ -3,7 +3,7 @@
  * crates export. Nothing else compares the two.
  *
  *   layout_test POD_H RT_FILE.. */
-#include "check.h"
+#include "test/check.h"
 
 #include <ctype.h>
 

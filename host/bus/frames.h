@@ -1,8 +1,8 @@
 /* Firmware Hub frames: laid down clock by clock, and recognised again on a bus that someone watches. */
-#ifndef BAY_FRAMES_H
-#define BAY_FRAMES_H
+#ifndef BUS_FRAMES_H
+#define BUS_FRAMES_H
 
-#include "sample.h"
+#include "bus/pins.h"
 
 #include <stdbool.h>
 #include <stddef.h>
@@ -22,11 +22,13 @@
 enum {
     FRAME_START_READ = 0xD,
     FRAME_START_WRITE = 0xE,
+    FRAME_TURNAROUND = 0xF,
     FRAME_CLOCK_SELECT = 2,
     FRAME_CLOCK_ADDRESS = 3,
     FRAME_CLOCK_SIZE = 10,
     FRAME_CLOCK_WRITTEN = 11,
     FRAME_CLOCK_ACT = 12,
+    FRAME_CLOCK_WAIT = 13,
     FRAME_CLOCK_SYNC = 15,
     FRAME_CLOCK_READ = 16,
     FRAME_READ_CLOCKS = 19,
@@ -34,16 +36,33 @@ enum {
     FRAME_MOST_CLOCKS = FRAME_READ_CLOCKS
 };
 
+/* A frame nibble by nibble, so that any of them can be a wrong one. byte: what is written, or what a read is to find. */
 struct frame {
     bool write;
+    uint8_t start;
     uint8_t select;
     uint8_t size;
+    uint8_t turn;
     uint8_t byte;
     uint32_t address;
 };
 
-/* Lays the frame over an idle sample, whose pins it keeps; gives its clocks. */
+struct frame frame_read(unsigned select, uint32_t address);
+struct frame frame_write(unsigned select, uint32_t address, uint8_t byte);
+
+unsigned frame_clocks(const struct frame *frame);
+
+/* The sample of one of its clocks, over an idle sample whose pins it keeps. */
+uint16_t frame_sample(const struct frame *frame, unsigned clock, uint16_t idle);
+
+/* The answer byte that a part gives on that clock to a frame that it takes. */
+uint8_t frame_answer(const struct frame *frame, unsigned clock);
+
+/* Lays all of it over an idle sample; gives its clocks. */
 size_t frame_lay(const struct frame *frame, uint16_t idle, uint16_t samples[FRAME_MOST_CLOCKS]);
+
+/* A sample that breaks a frame off, its frame line low and a nibble on the lines. */
+uint16_t frame_break(uint16_t idle, unsigned lines);
 
 /* A frame that is being watched. clock: its clocks so far, 0 where there is no frame. */
 struct watched {

@@ -1,6 +1,6 @@
 /* Tests operations clock by clock: permission, what each clock does to the image, suspend and resume on the last
  * clocks, the clock on which a read or a command is decided, and reset. */
-#include "rig.h"
+#include "test/rig.h"
 
 /* ---- Setups and permission. */
 

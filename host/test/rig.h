@@ -3,7 +3,7 @@
 #ifndef RIG_H
 #define RIG_H
 
-#include "check.h"
+#include "test/check.h"
 
 /* ---- Samples. */
 

@@ -1,6 +1,6 @@
 /* Tests what needs no clock, on good, bad and extreme input: power up, set times, soundness, status and marks, bay
  * sheets and the block view. */
-#include "check.h"
+#include "test/check.h"
 
 /* The numbers at and around every limit, and those that a narrower type would cut down to a good one. */
 static const uint32_t NUMBERS[] = {

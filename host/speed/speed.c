@@ -9,8 +9,8 @@
  * long: the one failure is a row whose sides differ. */
 #include "model.h"
 #include "pod.h"
-#include "same_device.h"
-#include "traffic.h"
+#include "test/same_device.h"
+#include "speed/traffic.h"
 
 #include <inttypes.h>
 #include <stdbool.h>

@@ -32,7 +32,7 @@
  *   refuse NUMBER sheet read XX.. | refuse NUMBER sheet write [straps N] [times P S U] [room LENGTH]
  */
 #include "pod.h"
-#include "same_device.h"
+#include "test/same_device.h"
 
 #include <stdarg.h>
 #include <stdbool.h>
