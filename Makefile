@@ -36,7 +36,7 @@ CPPFLAGS := -D_XOPEN_SOURCE=700 -Ihost
 
 ifdef CHECKED
 # The same programs, watched while they run: the first access outside an object or undefined act ends them.
-CFLAGS  += -O1 -g -fno-omit-frame-pointer -fsanitize=address,undefined -fno-sanitize-recover=all
+CFLAGS  += -O1 -g -Wno-conversion -fno-omit-frame-pointer -fsanitize=address,undefined -fno-sanitize-recover=all
 else
 # What stands between a fault of bay and whoever would use it.
 HARDEN      := -U_FORTIFY_SOURCE -D_FORTIFY_SOURCE=2 -fstack-protector-strong -fstack-clash-protection -fPIE
@@ -75,12 +75,13 @@ endif
 
 # ---- The host's programs: what is under host/, folder by folder.
 
+comma := ,
 objects = $(patsubst host/%.c,$(BUILD)/obj/%.o,$(wildcard $(addprefix host/,$(1))))
 
 # What several programs share; a linker takes from it what a program names.
 KIT      := $(BUILD)/kit.a
 TESTS    := $(patsubst host/test/%.c,%,$(wildcard host/test/*_test.c))
-PROGRAMS := $(addprefix $(BUILD)/,$(TESTS) case diff speed bay lay poke fuzz)
+PROGRAMS := $(addprefix $(BUILD)/,$(TESTS) case diff speed bay bay_faulty lay poke fuzz)
 
 host: $(PROGRAMS) $(BUILD)/traces
 
@@ -95,11 +96,14 @@ $(BUILD)/case: $(call objects,case/*.c)
 $(BUILD)/diff: $(call objects,diff/*.c)
 $(BUILD)/speed: $(call objects,speed/*.c)
 $(BUILD)/bay: $(call objects,bay/*.c)
+$(BUILD)/bay_faulty: $(call objects,bay/*.c bay/test/faulty.c)
 $(BUILD)/lay: $(call objects,bay/test/lay.c)     # makes streams from scripts
 $(BUILD)/poke: $(call objects,bay/test/poke.c)   # a client for the tests of the server
 $(BUILD)/fuzz: $(call objects,fuzz/*.c) $(filter-out %/main.o,$(call objects,bay/*.c))
 
 $(BUILD)/bay: LINK := $(HARDEN_LINK)
+FAULTY := open write fsync fchmod ftruncate link rename unlink accept signal sigaction
+$(BUILD)/bay_faulty: LINK := $(addprefix -Wl$(comma)--wrap=,$(FAULTY))
 $(call objects,bay/*.c bus/*.c): CFLAGS += $(HARDEN)
 
 $(BUILD)/obj/%.o: host/%.c | setup
