@@ -47,7 +47,7 @@ HARDEN_LINK += -pie
 endif
 endif
 
-.PHONY: test quick lib setup host install demo checked fuzz fuzz-host bench flashrom lint clean
+.PHONY: test quick lib setup host install demo checked fuzz fuzz-host bench flashrom lint flags clean
 .DELETE_ON_ERROR:
 
 test:
@@ -118,6 +118,20 @@ $(BUILD)/traces: $(BUILD)/diff
 checked:
 	@$(MAKE) --no-print-directory BUILD=build/checked CHECKED=1 host
 
+# ---- In place for others: PREFIX is where it is to be found, DESTDIR what stands before that while a package is made.
+
+VERSION = $(shell sed -n 's/^.define POD_VERSION_M[AI][JN]OR //p' host/pod.h | paste -sd.)
+TO      = $(DESTDIR)$(PREFIX)
+
+install: $(POD_LIB) build/bay
+	@install -d $(TO)/bin $(TO)/include $(TO)/lib/pkgconfig $(TO)/share/man/man1
+	@install -m 644 $(POD_LIB) $(TO)/lib
+	@install -m 644 host/pod.h $(TO)/include
+	@sed 's|@PREFIX@|$(abspath $(PREFIX))|; s|@VERSION@|$(VERSION)|' host/pod.pc.in >$(TO)/lib/pkgconfig/pod.pc
+	@install $(wildcard build/bay build/bay.x86-64) $(TO)/bin
+	@install -m 644 host/bay/bay.1 $(TO)/share/man/man1
+	@echo "installed pod $(VERSION) in $(TO)"
+
 # ---- Jobs.
 
 demo: build/bay
@@ -141,6 +155,9 @@ flashrom: build/bay build/lay build/poke
 lint:
 	@tools/setup lint tidy
 	@tools/lint
+
+flags:
+	@echo -std=c11 $(CPPFLAGS)
 
 clean:
 	rm -rf build target

@@ -20,12 +20,12 @@
 #ifndef POD_H
 #define POD_H
 
-#include <stddef.h>
-#include <stdint.h>
-
 #if !defined __x86_64__ || defined __ILP32__ || defined _WIN32
 #error "the pod library is for x86-64 with the System V ABI (64-bit pointers)"
 #endif
+
+#include <stddef.h>
+#include <stdint.h>
 
 /* The face's version: the first number rises where a program has to change or to be compiled anew, the second where
  * something is added. */

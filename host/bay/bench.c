@@ -11,7 +11,7 @@ void bench_power_up(struct bench *bench, const struct settings *settings)
     bench->refusal = up.number;
     bench->select = (uint8_t)(settings->straps & 0xF);
     bench->clock = 0;
-    if (up.number == 0) {
+    if (up.number == POD_DONE) {
         /* no sample is taken, but image and pins are looked at */
         bench->refusal = pod_settle(up.device, bench->image, bench->image_length, bench->idle, 0).number;
     }
@@ -54,14 +54,14 @@ static uint64_t rest_while_busy(struct bench *bench, uint64_t clocks)
     while (clocks > 0 && bench->refusal == 0) {
         uint32_t limit = clocks < UINT32_MAX ? (uint32_t)clocks : UINT32_MAX;
         struct pod_settled settled = pod_settle(bench->device, bench->image, bench->image_length, bench->idle, limit);
-        if (settled.number != 0 && settled.number != 10) {
+        if (settled.number != POD_DONE && settled.number != POD_STILL_BUSY) {
             bench->refusal = settled.number;
             return 0;
         }
         bench->device = settled.device;
         bench->clock += settled.count;
         clocks -= settled.count;
-        if (settled.number == 0) {
+        if (settled.number == POD_DONE) {
             break;
         }
     }

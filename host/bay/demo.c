@@ -54,7 +54,7 @@ static void fill(uint8_t *firmware)
 static size_t blank_bytes(const struct bench *bench, const uint8_t *page, unsigned block)
 {
     struct pod_part part = pod_view(bench->device, bench->image, bench->image_length, page, POD_BLOCK_BYTES, block);
-    const uint8_t *shown = (part.from == 1 ? bench->image : page) + part.start;
+    const uint8_t *shown = (part.from == POD_FROM_IMAGE ? bench->image : page) + part.start;
     size_t blank = 0;
     for (size_t i = 0; i < part.length; i++) {
         blank += shown[i] == 0xFF ? 1U : 0U;

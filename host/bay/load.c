@@ -32,7 +32,7 @@ int load_run(struct load *load, struct pod_report *report)
     memcpy(load->after, load->before.at, load->before.length);
     *report = pod_run(load->after, load->before.length, load->samples.at, load->samples.length, load->answers, room,
                       s->straps, s->program, s->slice, s->pause);
-    if (report->number == 0) {
+    if (report->number == POD_DONE) {
         return 0;
     }
     return refused(report->number, &(struct facts){ .image = load->image,

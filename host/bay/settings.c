@@ -68,7 +68,7 @@ int settings_from_sheet(const char *path, struct settings *out)
         return status;
     }
     struct pod_sheet read = pod_sheet_read(sheet.at, sheet.length);
-    if (read.number != 0) {
+    if (read.number != POD_DONE) {
         status = refused(read.number,
                          &(struct facts){ .sheet = path, .sheet_bytes = sheet.at, .sheet_length = sheet.length });
     }

@@ -38,23 +38,19 @@ static char *next_word(struct words *words)
     return word;
 }
 
-/* One setting, as `wp low`. */
+/* One setting, as `wp low`. The harness holds write protect, top block lock and the voltage; no other pin. */
 static bool take_setting(struct pull *pull, const char *name, const char *value)
 {
-    static const struct {
-        const char *name;
-        unsigned pin;
-    } pins[] = { { "wp", POD_SAMPLE_WP }, { "tbl", POD_SAMPLE_TBL } };
     unsigned mask = 0;
     unsigned bits = 0;
     if (value == NULL) {
         return false;
     }
-    for (size_t i = 0; i < sizeof pins / sizeof pins[0]; i++) {
-        if (strcmp(name, pins[i].name) == 0 && (strcmp(value, "high") == 0 || strcmp(value, "low") == 0)) {
-            mask = pins[i].pin;
-            bits = value[0] == 'h' ? mask : 0;
-        }
+    const struct pin *pin = pin_named(name);
+    bool held = pin != NULL && (pin->mask & (POD_SAMPLE_WP | POD_SAMPLE_TBL)) != 0;
+    if (held && (strcmp(value, "high") == 0 || strcmp(value, "low") == 0)) {
+        mask = pin->mask;
+        bits = value[0] == 'h' ? mask : 0;
     }
     uint32_t voltage = 0;
     if (strcmp(name, "voltage") == 0 && number_take(value, &voltage) && voltage <= 3) {

@@ -1,8 +1,9 @@
 /* The part's numbers in words. */
 #include "words.h"
 
-#include "pod.h"
+#include "bus/addresses.h"
 #include "bus/pins.h"
+#include "pod.h"
 #include "trouble.h"
 
 #include <stdarg.h>
@@ -60,7 +61,7 @@ static void __attribute__((format(printf, 2, 3))) brief_add(struct brief *brief,
 struct brief brief_status(uint32_t status)
 {
     struct brief out = { "" };
-    brief_add(&out, "%02Xh, %s", (unsigned)status, (status & 0x80U) != 0 ? "ready" : "busy");
+    brief_add(&out, "%02Xh, %s", (unsigned)status, (status & POD_STATUS_READY) != 0 ? "ready" : "busy");
     for (unsigned bit = STATUS_BITS - 1; bit-- > 0;) {
         if ((status >> bit & 1U) != 0) {
             brief_add(&out, ", %s", bits[bit].brief);
@@ -73,16 +74,16 @@ struct brief brief_address(uint32_t address)
 {
     struct brief out = { "" };
     unsigned shown = (unsigned)address;
-    unsigned block = shown >> 16 & 0xFU;
-    if ((shown & 0x400000U) != 0) {
-        brief_add(&out, "array %05Xh (block %u)", shown & 0xFFFFFU, block);
-    } else if ((shown & 0xFF0FFFFU) == 0xFB00002U) {
+    unsigned block = block_of(shown % POD_IMAGE_BYTES);
+    if ((shown & ADDRESS_IS_ARRAY) != 0) {
+        brief_add(&out, "array %05Xh (block %u)", shown % POD_IMAGE_BYTES, block);
+    } else if (shown == lock_address(block)) {
         brief_add(&out, "lock of block %u (%07Xh)", block, shown);
-    } else if (shown == 0xFBC0100U) {
+    } else if (shown == ADDRESS_INPUTS) {
         brief_add(&out, "inputs (%07Xh)", shown);
-    } else if (shown == 0xFBC0000U) {
+    } else if (shown == ADDRESS_MAKER) {
         brief_add(&out, "maker (%07Xh)", shown);
-    } else if (shown == 0xFBC0001U) {
+    } else if (shown == ADDRESS_DEVICE) {
         brief_add(&out, "device code (%07Xh)", shown);
     } else {
         brief_add(&out, "register %07Xh", shown);
@@ -94,16 +95,12 @@ static const char *const voltages[] = { "below lockout", "normal", "twelve volts
 
 struct brief brief_pins(uint16_t sample, const uint16_t *before)
 {
-    static const struct {
-        unsigned pin;
-        const char *name;
-    } pins[] = { { POD_SAMPLE_RP, "RP" }, { POD_SAMPLE_INIT, "INIT" }, { POD_SAMPLE_TBL, "TBL" }, { POD_SAMPLE_WP, "WP" } };
     struct brief out = { "" };
     unsigned moved = before == NULL ? 0xFFFFU : (unsigned)sample ^ *before;
     const char *comma = "";
-    for (size_t i = 0; i < sizeof pins / sizeof pins[0]; i++) {
-        if ((moved & pins[i].pin) != 0) {
-            brief_add(&out, "%s%s %s", comma, pins[i].name, sample_has(sample, pins[i].pin) ? "high" : "low");
+    for (size_t i = 0; i < PINS; i++) {
+        if ((moved & pins[i].mask) != 0) {
+            brief_add(&out, "%s%s %s", comma, pins[i].sign, sample_has(sample, pins[i].mask) ? "high" : "low");
             comma = ", ";
         }
     }
@@ -207,14 +204,14 @@ int refused(uint32_t number, const struct facts *facts)
     const struct settings *s = &facts->settings;
     int status = (int)number;
     switch (number) {
-    case 2:
+    case POD_REFUSED_IMAGE:
         return trouble(status, "refusal 2: %s is not an image of this part\n"
                                "  expected  %s bytes\n"
                                "  found     %s\n"
                                "  do        read the board again, or name the whole image",
                        facts->image, counted(POD_IMAGE_BYTES).text,
                        length_found(facts->image_length, facts->image_more).text);
-    case 3:
+    case POD_REFUSED_STRAPS:
         if (facts->sheet != NULL) {
             return trouble(status, "refusal 3: %s has straps that the part has not\n"
                                    "  expected  straps 0 to 15\n"
@@ -227,7 +224,7 @@ int refused(uint32_t number, const struct facts *facts)
                                "  found     %s\n"
                                "  do        give the four strap pins as a number from 0 to 15",
                        counted(s->straps).text);
-    case 4:
+    case POD_REFUSED_TIMES:
         if (facts->sheet != NULL) {
             return trouble(status, "refusal 4: %s has a time that is out of range\n"
                                    "  expected  program 1 to 200, slice 1 to 39,062, pause 1 to 30 microseconds\n"
@@ -240,20 +237,20 @@ int refused(uint32_t number, const struct facts *facts)
                                "  found     program %s, slice %s, pause %s\n"
                                "  do        give three times within their ranges",
                        counted(s->program).text, counted(s->slice).text, counted(s->pause).text);
-    case 5:
+    case POD_REFUSED_STREAM:
         return trouble(status, "refusal 5: %s is not a stream of samples\n"
                                "  expected  two bytes for each sample and at most %s bytes\n"
                                "  found     %s\n"
                                "  do        record the stream again, or cut it into shorter ones",
                        facts->stream, counted(POD_STREAM_BYTES).text,
                        length_found(facts->stream_length, facts->stream_more).text);
-    case 7:
+    case POD_REFUSED_VOLTAGE:
         return trouble(status, "refusal 7: %s has a voltage that no supply gives\n"
                                "  expected  voltage class 0, 1 or 2 in every sample\n"
                                "  found     %s\n"
                                "  do        mend the recording or the harness track",
                        facts->stream, first_class_3(facts).text);
-    case 8:
+    case POD_REFUSED_SHEET:
         return trouble(status, "refusal 8: %s is not a bay sheet\n"
                                "  expected  %d bytes: straps, then program, slice and pause, each behind its tag\n"
                                "  found     %s\n"
