@@ -1,0 +1,31 @@
+/* Random choices of what a frame or a call is about: likely ones mostly, odd ones now and then. */
+#ifndef DIFF_CHOICES_H
+#define DIFF_CHOICES_H
+
+#include "model.h"
+
+#include <stdint.h>
+
+/* A block, mostly one of the trace's favourites. */
+uint32_t some_block(void);
+
+/* A place in the array, often one where something is going on. */
+uint32_t some_place(void);
+
+/* An address whose array bits name a place; the bits that do not count are any. */
+uint32_t some_address_of(uint32_t place);
+uint32_t some_array_address(void);
+
+/* The address of a register, or of none. */
+uint32_t some_register(void);
+
+/* A command byte, or another one. */
+uint8_t some_command(void);
+
+/* Times in their ranges, short ones mostly and both ends often. */
+struct model_times some_times(void);
+
+/* The same, one in `bad` with a time out of its range. */
+struct model_times maybe_bad_times(uint32_t bad);
+
+#endif
