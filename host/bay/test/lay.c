@@ -1,79 +1,54 @@
-/* lay: makes a stream from a script on the standard input, in the language of the cases (a stand-in until it is shared). */
-#include "bus/frames.h"
+/* lay: makes a stream from a script on the standard input, in the language of bus/script.h. */
+#include "bus/script.h"
 
 #include <stdio.h>
-#include <stdlib.h>
-#include <string.h>
 
-static void put(uint16_t sample)
-{
-    uint8_t bytes[2];
-    sample_put(bytes, 0, sample);
-    if (fwrite(bytes, 1, 2, stdout) != 2) {
-        exit(1);
-    }
-}
+enum { STATUS_NOT_UNDERSTOOD = 64, STATUS_NO_INPUT = 66, STATUS_NOT_WRITTEN = 74 };
 
-static void put_frame(char **words, size_t count, uint16_t idle)
+/* Lays all lines; says what is wrong with the first that is not understood. */
+static int read_lines(struct script *script)
 {
-    size_t next = words[0][0] == 'w' ? 3 : 2;
-    unsigned broken = 0;
-    struct frame frame = next == 3 ? frame_write(0, (uint32_t)strtoul(words[1], NULL, 16), (uint8_t)strtoul(words[2], NULL, 16))
-                                   : frame_read(0, (uint32_t)strtoul(words[1], NULL, 16));
-    for (; next + 1 < count; next += 2) {
-        unsigned value = (unsigned)strtoul(words[next + 1], NULL, 16);
-        if (strcmp(words[next], "strap") == 0) {
-            frame.select = (uint8_t)value;
-        } else if (strcmp(words[next], "size") == 0) {
-            frame.size = (uint8_t)value;
-        } else if (strcmp(words[next], "break") == 0) {
-            broken = (unsigned)strtoul(words[next + 1], NULL, 10);
+    struct words words;
+    words_begin(&words);
+    while (words_next(&words, stdin)) {
+        if (!script_take(script, &words)) {
+            words_wrong(&words, "expected a line of traffic, found %s", words_found(&words));
+        }
+        if (words_are_wrong(&words)) {
+            (void)fprintf(stderr, "lay: standard input:%u: %s\n", words.line, words.wrong);
+            return STATUS_NOT_UNDERSTOOD;
         }
     }
-    unsigned last = broken != 0 ? broken - 1 : frame_clocks(&frame);
-    for (unsigned clock = 1; clock <= last; clock++) {
-        put(frame_sample(&frame, clock, idle));
+    if (ferror(stdin)) {
+        (void)fprintf(stderr, "lay: expected a script on the standard input, found that it cannot be read\n");
+        return STATUS_NO_INPUT;
     }
-    if (broken != 0) {
-        put(frame_break(idle, 0xF));
+    return 0;
+}
+
+static int write_stream(const struct script *script)
+{
+    for (size_t i = 0; i < script->count; i++) {
+        uint8_t bytes[2];
+        sample_put(bytes, 0, script->laid[i].sample);
+        if (fwrite(bytes, 1, sizeof bytes, stdout) != sizeof bytes) {
+            return STATUS_NOT_WRITTEN;
+        }
     }
+    return fflush(stdout) == 0 ? 0 : STATUS_NOT_WRITTEN;
 }
 
 int main(void)
 {
-    uint16_t idle = POD_SAMPLE_IDLE;
-    char line[256];
-    while (fgets(line, sizeof line, stdin) != NULL) {
-        char *words[16], *rest = NULL;
-        size_t count = 0;
-        line[strcspn(line, "#\n")] = '\0';
-        for (char *w = strtok_r(line, " \t", &rest); w != NULL && count < 16; w = strtok_r(NULL, " \t", &rest)) {
-            words[count++] = w;
-        }
-        if (count == 0) {
-            continue;
-        }
-        const char *verb = words[0];
-        if (strcmp(verb, "write") == 0 || strcmp(verb, "read") == 0) {
-            put_frame(words, count, idle);
-        } else if (strcmp(verb, "idle") == 0) {
-            for (unsigned long n = strtoul(words[1], NULL, 10); n > 0; n--) {
-                put(idle);
-            }
-        } else if (strcmp(verb, "reset") == 0) {
-            put(sample_set(idle, pin_named(words[1])->mask, 0));
-        } else if (strcmp(verb, "raw") == 0) {
-            put((uint16_t)strtoul(words[1], NULL, 16));
-        } else if (strcmp(verb, "pin") == 0) {
-            idle = sample_set(idle, pin_named(words[1])->mask, words[2][0] == 'h' ? 0xFFFF : 0);
-        } else if (strcmp(verb, "voltage") == 0) {
-            idle = sample_with_voltage(idle, (unsigned)strtoul(words[1], NULL, 10));
-        } else if (strcmp(verb, "inputs") == 0) {
-            idle = sample_with_inputs(idle, (unsigned)strtoul(words[1], NULL, 16));
-        } else {
-            (void)fprintf(stderr, "lay: %s is not a line that is known\n", verb);
-            return 64;
+    struct script script;
+    script_begin(&script, SIZE_MAX);
+    int status = read_lines(&script);
+    if (status == 0) {
+        status = write_stream(&script);
+        if (status != 0) {
+            (void)fprintf(stderr, "lay: expected to write the stream, found that it cannot be written\n");
         }
     }
-    return fflush(stdout) == 0 ? 0 : 74;
+    script_free(&script);
+    return status;
 }
