@@ -4,7 +4,7 @@
 #include <stddef.h>
 #include <string.h>
 
-uint32_t any_number(void)
+static uint32_t any_number(void)
 {
     static uint64_t seed = 0x9E3779B97F4A7C15u;
     seed ^= seed << 13;

@@ -6,7 +6,6 @@
 
 #include <stdint.h>
 
-uint32_t any_number(void);
 uint32_t any_below(uint32_t limit);
 
 /* Any bytes as a device, each below a limit. */

@@ -66,6 +66,14 @@ static uint16_t edge_idle(void)
     return sample_with_inputs(sample_set(POD_SAMPLE_IDLE, low, 0), any_below(32));
 }
 
+static size_t lay_wait(uint16_t idle, uint16_t samples[FRAME_MOST_CLOCKS])
+{
+    for (size_t i = 0; i < FRAME_MOST_CLOCKS; i++) {
+        samples[i] = idle;
+    }
+    return FRAME_MOST_CLOCKS;
+}
+
 size_t edge_traffic(unsigned straps, uint16_t samples[FRAME_MOST_CLOCKS])
 {
     static const uint8_t commands[] = { 0xFF, 0x70, 0x90, 0x50, 0x40, 0x10, 0x20, 0xB0, 0xD0, 0xD0, 0xB0, 0x00 };
@@ -79,10 +87,7 @@ size_t edge_traffic(unsigned straps, uint16_t samples[FRAME_MOST_CLOCKS])
     } else if (kind == 1) {
         frame = frame_write(straps, lock_address(block), any_below(4) != 0 ? 0 : (uint8_t)any_below(8));
     }
-    const size_t clocks = frame_lay(&frame, idle, samples);
-    for (size_t i = 0; kind == 2 && i < clocks; i++) {
-        samples[i] = idle;
-    }
+    const size_t clocks = kind == 2 ? lay_wait(idle, samples) : frame_lay(&frame, idle, samples);
     samples[0] = sample_set(samples[0], once_in(400, POD_SAMPLE_RP), 0);
     return any_below(16) == 0 ? 1 + any_below((uint32_t)clocks) : clocks;
 }

@@ -9,7 +9,7 @@
 #include <string.h>
 
 static struct lent image, page, stream, answers;
-static struct lent nothing;         /* a valid pointer to no bytes */
+static struct lent nothing; /* a valid pointer to no bytes */
 static uint8_t *const nowhere = NULL;
 
 static const struct asked usual = { .program = 10, .slice = 3906, .pause = 30 };
@@ -283,16 +283,18 @@ static void test_fresh_names(void)
 /* The names that are made of others. */
 static void test_names_of_names(void)
 {
-    expect(POD_SAMPLE_IDLE, POD_SAMPLE_LINES | POD_SAMPLE_FRAME | POD_SAMPLE_RP | POD_SAMPLE_INIT | POD_SAMPLE_TBL |
-                                POD_SAMPLE_WP | POD_VOLTAGE_NORMAL << POD_SAMPLE_VOLTAGE_SHIFT, "the idle sample");
-    expect(POD_SAMPLE_INPUTS, POD_SAMPLE_FGPI0 | POD_SAMPLE_FGPI1 | POD_SAMPLE_FGPI2 | POD_SAMPLE_FGPI3 |
-                                  POD_SAMPLE_FGPI4, "the inputs");
-    expect(POD_SAMPLE_INPUTS, 0x1F << POD_SAMPLE_INPUTS_SHIFT, "the inputs as a number");
-    expect(POD_SAMPLE_VOLTAGE, 3 << POD_SAMPLE_VOLTAGE_SHIFT, "the voltage class as a number");
-    expect(POD_STATUS_ERRORS, POD_STATUS_PROTECTED | POD_STATUS_VOLTAGE | POD_STATUS_PROGRAM | POD_STATUS_ERASE,
+    const uint32_t high = POD_SAMPLE_LINES | POD_SAMPLE_FRAME | POD_SAMPLE_RP | POD_SAMPLE_INIT | POD_SAMPLE_TBL |
+                          POD_SAMPLE_WP;
+    const uint32_t inputs = POD_SAMPLE_FGPI0 | POD_SAMPLE_FGPI1 | POD_SAMPLE_FGPI2 | POD_SAMPLE_FGPI3 |
+                            POD_SAMPLE_FGPI4;
+    expect(high | POD_VOLTAGE_NORMAL << POD_SAMPLE_VOLTAGE_SHIFT, POD_SAMPLE_IDLE, "the idle sample");
+    expect(inputs, POD_SAMPLE_INPUTS, "the inputs");
+    expect(0x1F << POD_SAMPLE_INPUTS_SHIFT, POD_SAMPLE_INPUTS, "the inputs as a number");
+    expect(3 << POD_SAMPLE_VOLTAGE_SHIFT, POD_SAMPLE_VOLTAGE, "the voltage class as a number");
+    expect(POD_STATUS_PROTECTED | POD_STATUS_VOLTAGE | POD_STATUS_PROGRAM | POD_STATUS_ERASE, POD_STATUS_ERRORS,
            "the error bits");
-    expect(POD_IMAGE_BYTES, POD_BLOCKS * POD_BLOCK_BYTES, "the bytes of all blocks");
-    expect(POD_BLOCK_BYTES, POD_SLICES * POD_SLICE_BYTES, "the bytes of all slices");
+    expect(POD_BLOCKS * POD_BLOCK_BYTES, POD_IMAGE_BYTES, "the bytes of all blocks");
+    expect(POD_SLICES * POD_SLICE_BYTES, POD_BLOCK_BYTES, "the bytes of all slices");
 }
 
 static void test_names(void)

@@ -6,7 +6,7 @@
 
 #include <string.h>
 
-bool in_range(uint32_t number, uint32_t least, uint32_t most)
+static bool in_range(uint32_t number, uint32_t least, uint32_t most)
 {
     return least <= number && number <= most;
 }

@@ -7,7 +7,7 @@
 #include <stdbool.h>
 #include <stdint.h>
 
-bool in_range(uint32_t number, uint32_t least, uint32_t most);
+/* Microseconds in clocks. */
 uint32_t in_clocks(uint32_t micros);
 
 /* Three times as a host hands them in, which may be any numbers. */
@@ -20,6 +20,7 @@ bool times_in_range(struct asked times);
 /* Times that are in range, as the record keeps them. */
 struct pod_times times_kept(struct asked times);
 
+/* What the library must agree on: which devices it takes, and the status register of those. */
 bool is_sound(const struct pod_device *device);
 uint32_t status_of(const struct pod_device *device);
 
