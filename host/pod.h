@@ -1,13 +1,13 @@
 /* The pod: a proved model of the M50FW080 flash part on its Firmware Hub bus, as a C or C++ program calls it.
  *
  * A device is a plain record that the caller keeps and hands in; an image is the part's memory, which the caller lends.
- * The library holds nothing of its own between calls, so two devices on two images never meet, in one thread or in many.
+ * The library holds nothing of its own between calls, so two devices on two images never meet, in one thread or many.
  * There is no malloc, no file, no clock and no lock behind these functions, and no input that they cannot take: each
  * gives its answer or a numbered refusal.
  *
  * A refusal is the lowest number below that applies (pod_sheet_read alone tests 8 first). Refusals 1 to 9 leave every
- * buffer as it was lent, give back the device that was handed in, and 0 for every other number. Number 10 is given after
- * the stated clocks, which were done.
+ * buffer as it was lent, give back the device that was handed in, and 0 for every other number. Number 10 is given
+ * after the stated clocks, which were done.
  *
  * What the caller promises, since nothing here can test it: a pointer and the length beside it name memory that is
  * there for the whole call, and no two buffers of one call overlap each other or the device. Where a length is 0 the
@@ -137,9 +137,9 @@ struct pod_frame {
     uint32_t address;
 };
 
-/* An operation. kind: POD_OPERATION_..; state: POD_STATE_..; slices: those that an erase has still to fill; left: clocks
- * left, of a program's time or of the slice that an erase is at; pause: clocks left of a pending pause; times: its own
- * copy, taken when it was accepted. */
+/* An operation. kind: POD_OPERATION_..; state: POD_STATE_..; slices: those that an erase has still to fill; left:
+ * clocks left, of a program's time or of the slice that an erase is at; pause: clocks left of a pending pause; times:
+ * its own copy, taken when it was accepted. */
 struct pod_operation {
     uint8_t kind;
     uint8_t state;
@@ -201,11 +201,12 @@ struct pod_clocked pod_clock(struct pod_device *device, uint8_t *image, size_t i
 
 /* Repeats one idle sample until status bit 7 is 1, at most `limit` times; count is how often. Refusals 1, 2, 7, 9, and
  * 10 where `limit` samples were done and the part is still busy: device, image and count are then as they left them. */
-struct pod_settled pod_settle(struct pod_device device, uint8_t *image, size_t image_len, uint16_t sample, uint32_t limit);
+struct pod_settled pod_settle(struct pod_device device, uint8_t *image, size_t image_len,
+                              uint16_t sample, uint32_t limit);
 
-/* Powers up and does all samples of a stream. Gives samples done, the status register and the spoiled marks; changes the
- * image, and one answer byte for each sample (those behind are left). Refusals 2, 3, 4, 5, 6 (answers shorter than the
- * samples), 7. */
+/* Powers up and does all samples of a stream. Gives samples done, the status register and the spoiled marks; changes
+ * the image, and one answer byte for each sample (those behind are left). Refusals 2, 3, 4, 5, 6 (answers shorter than
+ * the samples), 7. */
 struct pod_report  pod_run(uint8_t *image, size_t image_len, const uint8_t *stream, size_t stream_len,
                            uint8_t *answers, size_t answers_len,
                            uint32_t straps, uint32_t program, uint32_t slice, uint32_t pause);
@@ -219,8 +220,8 @@ uint32_t           pod_sheet_write(uint8_t *buffer, size_t buffer_len,
                                    uint32_t straps, uint32_t program, uint32_t slice, uint32_t pause);
 
 /* Where to look at a block: in the image, or in a lent page of POD_BLOCK_BYTES zeros where its lock register locks
- * reading. `length` bytes from `start`. Changes and refuses nothing: an unsound device, a wrong length, a block above 15
- * and a page that is not all zeros give the empty front of the page. */
+ * reading. `length` bytes from `start`. Changes and refuses nothing: an unsound device, a wrong length, a block above
+ * 15 and a page that is not all zeros give the empty front of the page. */
 struct pod_part    pod_view(struct pod_device device, const uint8_t *image, size_t image_len,
                             const uint8_t *page, size_t page_len, uint32_t block);
 

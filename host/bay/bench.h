@@ -1,4 +1,5 @@
-/* One part on the bench: a device with its image, the pins as they are held, and a bus on which whole frames are laid. */
+/* One part on the bench: a device with its image, the pins as they are held, and a bus on which whole frames are
+ * laid. */
 #ifndef BAY_BENCH_H
 #define BAY_BENCH_H
 

@@ -179,7 +179,8 @@ static int show(struct text *text, const struct stock *stock, uint8_t *image)
         bench_power_up(&bench, &bay_settings);
         live(&bench, stock, &nights[i]);
         if (bench.refusal != 0) {
-            return refused(bench.refusal, &(struct facts){ .image = "demo", .stream = "demo", .settings = bay_settings });
+            return refused(bench.refusal,
+                           &(struct facts){ .image = "demo", .stream = "demo", .settings = bay_settings });
         }
         tell_row(text, &nights[i]);
     }

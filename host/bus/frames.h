@@ -36,7 +36,8 @@ enum {
     FRAME_MOST_CLOCKS = FRAME_READ_CLOCKS
 };
 
-/* A frame nibble by nibble, so that any of them can be a wrong one. byte: what is written, or what a read is to find. */
+/* A frame nibble by nibble, so that any of them can be a wrong one. byte: what is written, or what a read is to
+ * find. */
 struct frame {
     bool write;
     uint8_t start;
