@@ -1,27 +1,43 @@
-/* The texts that --help prints. */
+/* The texts that --help prints. An option, a command or a status has two blanks before it and its words from column 32
+ * on; what is usual stands behind them as "(usually ..)". The manual page and docs/bay.md have the same words, which
+ * test/help.sh compares. */
 #include "help.h"
 
 #define SETTINGS                                                                                       \
     "  --straps N                    the four strap pins as a number (usually 0)\n"                    \
-    "  --times PROGRAM,SLICE,PAUSE   microseconds (usually 10,3906,30)\n"                              \
+    "  --times PROGRAM,SLICE,PAUSE   three times, in microseconds (usually 10,3906,30)\n"              \
     "  --sheet FILE                  straps and times from a bay sheet instead\n"
 
-#define STATUSES                                                                                       \
-    "The exit status is 0 when done, the number of the library's refusal (1 to 10),\n"                 \
-    "or 64 and above: 64 command line, 65 text file, 66 unreadable, 69 port, 70 fault\n"                \
-    "of the program, 71 system, 73 and 74 output. On an error no file is changed.\n"
+#define STATUSES "The exit status is 0 when done; bay --help has the others.\n"
+#define NOTHING_CHANGED "On an error no file is changed.\n"
 
 const char help_bay[] =
     "bay: an M50FW080 flash part on the bench, clock by clock\n"
     "\n"
     "  bay demo                      the night that cost two boards, in seconds\n"
     "  bay run IMAGE STREAM          run a stream of samples on a copy of an image\n"
-    "  bay trace IMAGE STREAM        the same with every frame in words, or as a waveform\n"
+    "  bay trace IMAGE STREAM        the same, every frame in words or as a waveform\n"
     "  bay rack FOLDER               twelve bays side by side under one harness\n"
     "  bay serve --port N IMAGE      let flashrom at the part\n"
-    "  bay sheet read|write SHEET    bay sheets to words and back\n"
+    "  bay sheet read SHEET          a bay sheet in words\n"
+    "  bay sheet write SHEET         a bay sheet from words\n"
     "  bay COMMAND --help            more about one of them\n"
-    "\n" STATUSES
+    "\n"
+    "An option's value is the next word, or stands behind =, as in --times=10,1,30.\n"
+    "Words behind -- are names, even if they begin with a dash.\n"
+    "\n"
+    "Exit status:\n"
+    "\n"
+    "  0                             done\n"
+    "  1 to 10                       the library's refusal of that number\n"
+    "  64                            the command line is not one that bay knows\n"
+    "  65                            a text file does not say what it should\n"
+    "  66                            a file cannot be read\n"
+    "  69                            a port cannot be had\n"
+    "  70                            bay or the library is at fault\n"
+    "  71                            memory, processes or sockets ran out\n"
+    "  73                            a file cannot be made there\n"
+    "  74                            a file or the standard output cannot be written\n"
     "\n"
     "Example:  bay demo\n";
 
@@ -36,7 +52,7 @@ const char help_run[] =
     "  --save FILE                   write the image as the run left it\n"
     "\n"
     "A FILE of - is the standard output; the report then goes to the standard error.\n"
-    "\n" STATUSES
+    "\n" STATUSES NOTHING_CHANGED
     "\n"
     "Example:  bay run board.img night.stream --times 10,1,30 --save after.img\n";
 
@@ -51,7 +67,7 @@ const char help_trace[] =
     "  --vcd FILE                    also write the run as a waveform for GTKWave or sigrok\n"
     "\n"
     "A FILE of - is the standard output; the words then go to the standard error.\n"
-    "\n" STATUSES
+    "\n" STATUSES NOTHING_CHANGED
     "\n"
     "Example:  bay trace board.img night.stream --vcd night.vcd\n";
 
@@ -61,6 +77,7 @@ const char help_demo[] =
     "Twelve bays erase a block each while the harness pulls write protect low for all\n"
     "of them. The table shows what each block holds afterwards, and what the old model\n"
     "would have left there. No files are read or written.\n"
+    "\n" STATUSES
     "\n"
     "Example:  bay demo\n";
 
@@ -81,7 +98,8 @@ const char help_rack[] =
     "  --save FOLDER                 write bay01.img to bay12.img as the run left them\n"
     "  --seconds SECONDS             end a bay that takes so long (usually 120)\n"
     "\n" STATUSES
-    "With several bays in trouble it is the lowest number.\n"
+    "With several bays in trouble it is the lowest number. A bay in trouble changes no\n"
+    "file; the images of the others are written.\n"
     "\n"
     "Example:  bay rack tonight --save tomorrow\n";
 
@@ -94,15 +112,21 @@ const char help_serve[] =
     "server the same way.\n"
     "\n"
     "  --port N                      the port; 0 takes a free one and says which\n"
-    "  --wp low, --tbl low           hold write protect or top block lock low\n"
-    "  --voltage 0|1|2               below lockout, normal (usual), twelve volts\n"
+    "  --wp low|high                 hold write protect low or high (usually high)\n"
+    "  --tbl low|high                hold top block lock low or high (usually high)\n"
+    "  --voltage 0|1|2               below lockout, normal or twelve volts (usually 1)\n"
     "  --once                        end after one client\n"
     "  --clients N                   end after so many clients (usually 1000)\n"
     "  --idle SECONDS                end a client that is silent so long (usually 30)\n"
     "  --seconds SECONDS             end the server after so long (usually 28800)\n"
     "  --rest MICROSECONDS           the bus rests so long before each request, as it\n"
     "                                does behind a slow line (usually 100)\n" SETTINGS
+    "\n"
+    "A client that sends a byte now and then is not silent; --seconds bounds it too.\n"
+    "Where no client can be let in for ten seconds, for want of open files or memory,\n"
+    "the server ends with status 71.\n"
     "\n" STATUSES
+    "At any end the image is saved, if a client changed it.\n"
     "\n"
     "Example:  bay serve --port 4000 board.img\n"
     "and then  flashrom -p serprog:ip=127.0.0.1:4000 -c M50FW080 -r read.img\n";
@@ -112,10 +136,10 @@ const char help_sheet[] =
     "bay sheet write SHEET [options]: a bay sheet from words\n"
     "\n"
     "  --straps N                    the four strap pins as a number (usually 0)\n"
-    "  --times PROGRAM,SLICE,PAUSE   microseconds (usually 10,3906,30)\n"
+    "  --times PROGRAM,SLICE,PAUSE   three times, in microseconds (usually 10,3906,30)\n"
     "  --words FILE                  all four as bay sheet read prints them instead\n"
     "\n"
     "SHEET and FILE may be - for the standard input or output.\n"
-    "\n" STATUSES
+    "\n" STATUSES NOTHING_CHANGED
     "\n"
     "Example:  bay sheet write bay03.sheet --straps 3 --times 10,3906,30\n";

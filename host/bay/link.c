@@ -12,6 +12,7 @@
 const char link_over[] = "time is over";
 const char link_ended[] = "the server is to end";
 const char link_closed[] = "the client closed the line";
+const char link_broke[] = "the line broke";
 
 int64_t milliseconds(void)
 {
@@ -42,7 +43,7 @@ const char *wait_for(const struct wait *wait)
             return link_over;
         }
         if (errno != EINTR) {
-            return "the line broke";
+            return link_broke;
         }
     }
 }
@@ -92,7 +93,8 @@ bool link_flush(struct link *link)
 bool link_give(struct link *link, const uint8_t *from, size_t length)
 {
     while (length > 0) {
-        if (link->out_end == LINK_ROOM && !link_flush(link)) {
+        /* the wait is also where a client that takes long answers as fast as they come meets the end of the server */
+        if (link->out_end == LINK_ROOM && !(wait_client(link, true) && link_flush(link))) {
             return false;
         }
         size_t part = LINK_ROOM - link->out_end;

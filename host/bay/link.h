@@ -27,7 +27,7 @@ struct link {
 int64_t milliseconds(void);
 
 /* Waits until the file can be read (or written), the time is over or the server is to end. Gives null where it can,
- * else why not. */
+ * else why not. A file of -1 is none. */
 struct wait {
     int file;
     int stop;
@@ -47,5 +47,6 @@ bool link_flush(struct link *link);
 extern const char link_over[];   /* the server's time is over */
 extern const char link_ended[];  /* the server is to end */
 extern const char link_closed[]; /* the client closed the line */
+extern const char link_broke[];  /* the system failed to wait; errno says why */
 
 #endif

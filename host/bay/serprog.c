@@ -17,15 +17,16 @@ enum {
     NAME_BYTES = 16
 };
 
-/* A client sends 24 bits of an address in the top 16 megabytes; the frame's four bits above them are all ones. */
-static uint32_t frame_address(const uint8_t *three)
-{
-    return 0xF000000U | (uint32_t)three[0] | (uint32_t)three[1] << 8 | (uint32_t)three[2] << 16;
-}
-
 static uint32_t number24(const uint8_t *three)
 {
     return (uint32_t)three[0] | (uint32_t)three[1] << 8 | (uint32_t)three[2] << 16;
+}
+
+/* A client sends 24 bits of an address in the top 16 megabytes; the frame's four bits above them are all ones. Behind
+ * the last of these addresses the first one follows. */
+static uint32_t frame_address(const uint8_t *three, uint32_t further)
+{
+    return 0xF000000U | ((number24(three) + further) & 0xFFFFFFU);
 }
 
 static void put24(uint8_t *three, uint32_t number)
@@ -119,13 +120,12 @@ static bool choose_bus(struct serprog *s, const uint8_t *p)
 static bool read_byte(struct serprog *s, const uint8_t *p)
 {
     bench_rest(s->bench, s->rest);
-    uint8_t byte = bench_read(s->bench, frame_address(p));
+    uint8_t byte = bench_read(s->bench, frame_address(p, 0));
     return give_answer(s, &byte, 1);
 }
 
 static bool read_bytes(struct serprog *s, const uint8_t *p)
 {
-    uint32_t address = frame_address(p);
     uint32_t length = number24(p + 3);
     if (length == 0 || length > SERPROG_READ_MOST) {
         return give_byte(s, NAK);
@@ -133,7 +133,7 @@ static bool read_bytes(struct serprog *s, const uint8_t *p)
     bench_rest(s->bench, s->rest);
     bool holds = give_byte(s, ACK);
     for (uint32_t i = 0; i < length && holds; i++) {
-        holds = give_byte(s, bench_read(s->bench, address + i));
+        holds = give_byte(s, bench_read(s->bench, frame_address(p, i)));
     }
     return holds;
 }
@@ -178,7 +178,10 @@ static bool pass_over(struct link *link, uint32_t length)
 static bool write_bytes(struct serprog *s, const uint8_t *p)
 {
     uint32_t length = number24(p);
-    if (length == 0 || length > SERPROG_WRITE_MOST) {
+    if (length == 0) {
+        return give_byte(s, NAK);
+    }
+    if (length > SERPROG_WRITE_MOST) {
         s->link->why = "the client wrote more bytes at once than it was told";
         return false;
     }
@@ -199,7 +202,7 @@ static size_t carry_out(struct bench *bench, const uint8_t *at)
 {
     const uint8_t *p = at + 1;
     if (at[0] == OP_WRITE_BYTE) {
-        bench_write(bench, frame_address(p), p[3]);
+        bench_write(bench, frame_address(p, 0), p[3]);
         return 5;
     }
     if (at[0] == OP_DELAY) {
@@ -208,7 +211,7 @@ static size_t carry_out(struct bench *bench, const uint8_t *at)
     }
     uint32_t length = number24(p);
     for (uint32_t i = 0; i < length; i++) {
-        bench_write(bench, frame_address(p + 3) + i, p[6 + i]);
+        bench_write(bench, frame_address(p + 3, i), p[6 + i]);
     }
     return 7 + length;
 }

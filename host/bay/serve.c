@@ -14,8 +14,10 @@
 #include <arpa/inet.h>
 #include <errno.h>
 #include <fcntl.h>
+#include <limits.h>
 #include <netinet/in.h>
 #include <netinet/tcp.h>
+#include <poll.h>
 #include <signal.h>
 #include <stdarg.h>
 #include <stdio.h>
@@ -34,6 +36,17 @@ enum {
     MOST_REST = 1000000
 };
 
+/* In milliseconds: the first wait at a door that does not open, the longest, and all of them before the server gives
+ * up; and how long a reader of the server's words may keep it. */
+enum { FIRST_WAIT = 10, LONGEST_WAIT = 1000, MOST_WAITED = 10000, READER_WAIT = 100 };
+
+/* What keeps clients out since the last one was let in. error: 0 while nothing does. */
+struct door {
+    int error;
+    int64_t wait;
+    int64_t waited;
+};
+
 /* The server as it was asked for. served: clients so far. until: when its time is over. saved: the image as it stands
  * in the file. stop: readable once a signal has come. */
 struct server {
@@ -48,6 +61,7 @@ struct server {
     int64_t until;
     struct bench bench;
     uint8_t *saved;
+    struct door door;
     int listener;
     int stop;
 };
@@ -110,15 +124,17 @@ static int open_listener(struct server *server)
     return 0;
 }
 
-/* One line on the standard output, at once. A reader that is gone does not stop the server. */
+/* One line on the standard output, at once. A reader that is gone or does not read goes without it, and does not stop
+ * the server. */
 static void __attribute__((format(printf, 1, 2))) say(const char *form, ...)
 {
-    char line[512];
+    char line[PATH_MAX + 256];
+    struct pollfd out = { .fd = STDOUT_FILENO, .events = POLLOUT };
     va_list rest;
     va_start(rest, form);
     int length = vsnprintf(line, sizeof line, form, rest);
     va_end(rest);
-    if (length > 0 && write(STDOUT_FILENO, line, strlen(line)) < 0) {
+    if (length > 0 && poll(&out, 1, READER_WAIT) > 0 && write(STDOUT_FILENO, line, strlen(line)) < 0) {
         return;
     }
 }
@@ -152,9 +168,10 @@ static const char *serve_client(struct server *server, int client)
     link.until = server->until;
     serprog.link = &link;
     serprog.bench = &server->bench;
+    serprog.requests = 0;
     serprog.rest = (uint64_t)server->rest * POD_CLOCKS_PER_MICROSECOND;
     if (fcntl(client, F_SETFL, O_NONBLOCK) != 0 || setsockopt(client, IPPROTO_TCP, TCP_NODELAY, &yes, sizeof yes) != 0) {
-        link.why = "the line broke";
+        link.why = link_broke;
     } else {
         say("client %u begins\n", (unsigned)server->served);
         serprog_serve(&serprog);
@@ -169,6 +186,78 @@ static const char *serve_client(struct server *server, int client)
     return why;
 }
 
+/* Whether a client could not be let in for a reason of its own, as accept(2) has them, and not of the system. */
+static bool is_clients_own(int error)
+{
+    static const int own[] = {
+        EINTR,     EAGAIN, EWOULDBLOCK, ECONNABORTED, ENETDOWN,   EPROTO,      ENOPROTOOPT,
+        EHOSTDOWN, EPERM,  ETIMEDOUT,   EHOSTUNREACH, EOPNOTSUPP, ENETUNREACH,
+#ifdef ENONET
+        ENONET,
+#endif
+    };
+    for (size_t i = 0; i < sizeof own / sizeof own[0]; i++) {
+        if (own[i] == error) {
+            return true;
+        }
+    }
+    return false;
+}
+
+static const char door_shut[] = "no client can be let in";
+
+/* The wait after the system has failed to let a client in, twice as long each time. Gives 0 once there were enough. */
+static int64_t next_wait(struct door *door, int error)
+{
+    if (door->error == 0) {
+        say("%s: %s; trying on for %d seconds\n", door_shut, strerror(error), MOST_WAITED / 1000);
+        door->wait = FIRST_WAIT;
+    }
+    int64_t wait = door->waited < MOST_WAITED ? door->wait : 0;
+    door->error = error;
+    door->waited += wait;
+    door->wait = wait * 2 < LONGEST_WAIT ? wait * 2 : LONGEST_WAIT;
+    return wait;
+}
+
+/* Waits after a client could not be let in. Gives null where another try is due, else why the server ends. A client that
+ * left too early counts for nothing; the short wait is there so that many of them are no burden. */
+static const char *wait_at_door(struct server *server, int error)
+{
+    int64_t wait = is_clients_own(error) ? FIRST_WAIT : next_wait(&server->door, error);
+    if (wait == 0) {
+        return door_shut;
+    }
+    int64_t until = milliseconds() + wait;
+    const char *why = wait_for(&(struct wait){ .file = -1,
+                                               .stop = server->stop,
+                                               .until = until < server->until ? until : server->until });
+    return why == link_over ? NULL : why;
+}
+
+static int no_client(int error)
+{
+    return trouble(TROUBLE_SYSTEM, "%s\n"
+                                   "  expected  room for one more open file and its buffers within %d seconds\n"
+                                   "  found     %s\n"
+                                   "  do        end other programs or allow more open files, and start the server again",
+                   door_shut, MOST_WAITED / 1000, strerror(error));
+}
+
+/* What the server ends with. The image is brought to its file in any case; that it cannot be is the graver trouble. */
+static int end_server(struct server *server, const char *why)
+{
+    int status = 0;
+    say("the server ends: %s\n", why != NULL ? why : "the last client is served");
+    if (server->bench.refusal != 0) {
+        status = refused(server->bench.refusal, &(struct facts){ .image = server->image, .stream = "the client" });
+    } else if (why == door_shut || why == link_broke) {
+        status = no_client(server->door.error);
+    }
+    int saved = save(server);
+    return saved != 0 ? saved : status;
+}
+
 /* Clients one after another until their number or the time is over, or a signal comes. */
 static int serve_clients(struct server *server)
 {
@@ -178,18 +267,19 @@ static int serve_clients(struct server *server)
         why = wait_for(&(struct wait){ .file = server->listener, .stop = server->stop, .until = server->until });
         int client = why == NULL ? accept(server->listener, NULL, NULL) : -1;
         if (client < 0) {
-            continue; /* a client that left before it was let in counts for nothing */
+            why = why == NULL ? wait_at_door(server, errno) : why;
+            continue;
         }
+        server->door = (struct door){ 0 };
         server->served++;
         const char *end = serve_client(server, client);
         why = end == link_ended || end == link_over ? end : NULL;
         (void)save(server); /* if it cannot be saved now, it is tried again at the end */
     }
-    say("the server ends: %s\n", why != NULL ? why : "the last client is served");
-    if (server->bench.refusal != 0) {
-        return refused(server->bench.refusal, &(struct facts){ .image = server->image, .stream = "the client" });
+    if (why == link_broke) {
+        server->door.error = errno;
     }
-    return save(server);
+    return end_server(server, why);
 }
 
 static int power_up(struct server *server, const struct bytes *image)

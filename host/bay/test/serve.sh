@@ -21,6 +21,21 @@ launch() {
 
 start() { launch "$BAY_BUILD/bay" serve --port 0 "$@"; }
 
+# faulty FAULT WORDS...: the same, with a system call that fails (faulty.c says how a fault is named).
+faulty() {
+    fault=$1
+    shift
+    launch env "FAULTY=$fault" "$BAY_BUILD/bay_faulty" serve --port 0 "$@"
+}
+
+# used PID: the hundredths of a second that a program has had of the processor.
+used() { awk '{ print $14 + $15 }' "/proc/$1/stat"; }
+
+# open_files: how many files the server has open.
+open_files() { find "/proc/$server/fd" -mindepth 1 | wc -l; }
+
+now() { date +%s; }
+
 # answers WANT WORDS...: what one client is told.
 answers() {
     want=$1
@@ -112,6 +127,78 @@ says log "the client wrote more bytes at once than it was told"
 stop 0
 same board.img kept.img
 
+case_ "behind the last address the first one follows; a write of no bytes is turned away, and the line holds"
+start board.img --rest 0
+answers 065A5A0000 s:0AFEFFFF040000 r:5
+answers "15 06" s:0D0000000000F3 r:1 s:00 r:1
+stop 0
+
+case_ "no client leaves an open file behind"
+start board.img --idle 1
+answers 06 s:00 r:1
+before=$(open_files)
+for words in s:0900 s:0D000100 s:0A0000F3000001 s:47 s:0D011000 s:0E00 s:00 s:0F; do
+    poke "$port" $words
+    poke "$port"
+done
+answers "end" w:1500 e
+answers 06 s:00 r:1
+[ "$(open_files)" -le "$before" ] || wrong "$(open_files) open files, and $before before"
+stop 0
+
+case_ "a byte now and then keeps a line, until the server's time is over"
+start board.img --idle 1 --seconds 2
+poke "$port" s:0A w:700 s:00 w:700 s:00 w:700 s:F3 e >first 2>&1
+ended $server
+[ "$got" -eq 0 ] || wrong "the server's status is $got"
+says log "client 1 ends after 0 requests: "
+says log "the server ends: time is over"
+
+# A client that sends a file and takes all that comes, as fast as it comes.
+cat >eager <<'END'
+exec 3<>"/dev/tcp/127.0.0.1/$1"
+cat "$2" >&3
+cat <&3 >/dev/null
+END
+yes "$(printf '\\012\\000\\000\\363\\000\\000\\001')" | head -n 500 | tr -d '\n' >digits
+printf %b "$(cat digits)" >requests
+
+case_ "a client that asks for much and takes it as fast as it comes holds up neither a signal nor the end of the time"
+start board.img
+bash eager "$port" requests 2>/dev/null &
+other=$!
+sleep 1
+began=$(now)
+stop 0
+[ $(($(now) - began)) -le 5 ] || wrong "the signal was obeyed after $(($(now) - began)) seconds"
+ended $other
+began=$(now)
+start board.img --seconds 2
+bash eager "$port" requests 2>/dev/null &
+other=$!
+ended $server
+[ "$got" -eq 0 ] || wrong "the server's status is $got"
+[ $(($(now) - began)) -le 7 ] || wrong "the server of two seconds took $(($(now) - began))"
+ended $other
+same board.img kept.img
+
+case_ "a reader of the server's words that is gone, or does not read, does not stop it"
+mkfifo told
+head -n 1 <told >log &
+other=$!
+"$BAY_BUILD/bay" serve --port 0 board.img >told 2>err &
+server=$!
+ended $other
+port=$(sed -n 's/^listening on 127\.0\.0\.1:\([0-9]*\) .*/\1/p' log)
+answers 06 s:00 r:1
+answers 06 s:00 r:1
+stop 0
+# this script has the fifo open and reads nothing; what is written first leaves no room in it
+exec 9<>told
+dd if=/dev/zero of=told oflag=nonblock bs=4096 count=1000 2>/dev/null
+timeout -k 1 10 "$BAY_BUILD/bay" serve --port 0 --seconds 1 board.img >told 2>err || wrong "it does not end: status $?"
+exec 9>&-
+
 case_ "a client that asks and does not listen is ended too"
 start board.img --idle 1
 "$BAY_BUILD/poke" "$port" "s:$(yes 0A0000F3000001 | head -n 300 | tr -d '\n')" w:120000 &
@@ -126,6 +213,82 @@ ended $other
 says log "the client was silent too long"
 answers 065A s:090000F3 r:2
 stop 0
+
+# patient: a client in the background that waits for its answer.
+patient() {
+    "$BAY_BUILD/poke" "$port" s:00 r:1 >first 2>&1 &
+    other=$!
+}
+
+# A server at whose door all but the first client fail, while other cases run. Its folder is away when the first client
+# is gone, so that the image can be saved at the end only.
+case_ "a server that lets one client in, and then nobody"
+mkdir door
+cd door || exit 1
+cp ../kept.img board.img
+faulty "24 accept 2+" "$work/door/board.img" --seconds 40 --times 1,1,1
+"$BAY_BUILD/poke" "$port" s:0C0200B300 r:1 s:0C0000F340 r:1 s:0C0000F30F r:1 s:0F r:1 w:700 >/dev/null &
+other=$!
+sleep 0.3
+mv ../door ../away
+ended $other
+tries=0
+until grep -q '^client 1 ends' log || [ $tries -ge 100 ]; do
+    sleep 0.1
+    tries=$((tries + 1))
+done
+door=$server
+door_used=$(used "$door")
+door_began=$(now)
+patient
+door_client=$other
+cd .. || exit 1
+
+case_ "a first client that cannot be let in, for lack of open files or by its own fault, does not keep others out"
+for error in 24 103; do
+    faulty "$error accept 1" board.img --seconds 20
+    patient
+    answers 06 s:00 r:1
+    ended $other
+    [ "$(cat first)" = 06 ] || wrong "errno $error: the first client was told: $(cat first)"
+    stop 0
+done
+
+case_ "nobody can be let in: a signal ends the server at once"
+faulty "24 accept 1+" board.img --seconds 40
+patient
+sleep 1
+began=$(now)
+stop 0
+[ $(($(now) - began)) -le 2 ] || wrong "it took $(($(now) - began)) seconds"
+says log "no client can be let in: Too many open files; trying on for 10 seconds"
+ended $other
+
+case_ "many clients in a row that leave too early use little of the processor"
+faulty "103 accept 1+" board.img --seconds 3
+before=$(used "$server")
+patient
+sleep 2
+[ $(($(used "$server") - before)) -le 30 ] || wrong "it used $(($(used "$server") - before)) hundredths of a second"
+ended $server
+[ "$got" -eq 0 ] || wrong "the server's status is $got"
+ended $other
+
+case_ "nobody can be let in: the server uses little of the processor"
+[ $(($(used "$door") - door_used)) -le 30 ] || wrong "it used $(($(used "$door") - door_used)) hundredths of a second"
+mv away door
+
+case_ "a system that does not even let the server wait: it ends and says so"
+# without open files a checked build cannot look for lost memory
+launch env ASAN_OPTIONS=detect_leaks=0 "$BAY_BUILD/bay" serve --port 0 board.img --seconds 20
+prlimit --pid "$server" --nofile=1
+patient
+ended $server
+[ "$got" -eq 71 ] || wrong "the server's status is $got and not 71"
+says log "the server ends: the line broke"
+says err "bay serve: no client can be let in"
+says err "  found     Invalid argument"
+ended $other
 
 case_ "the device select of the frames is the straps' number"
 start board.img --straps 3 --once
@@ -259,5 +422,20 @@ gives 3 bay serve --port 0 board.img --straps 16
 gives 4 bay serve --port 0 board.img --times 0,0,0
 gives 64 bay serve --port 0 board.img --clients 0
 gives 64 bay serve --port 0 board.img --idle 0
+
+case_ "nobody can be let in: the server gives up in time, says so, and saves what a client wrote"
+ended "$door"
+[ "$got" -eq 71 ] || wrong "the server's status is $got and not 71"
+took=$(($(stat -c %Y door/log) - door_began))
+{ [ $took -ge 9 ] && [ $took -le 20 ]; } || wrong "it gave up after $took seconds"
+[ "$(grep -c 'trying on for' door/log)" -eq 1 ] || wrong "it did not say once that it tries on: $(cat door/log)"
+says door/log "the server ends: no client can be let in"
+says door/err "bay serve: no client can be let in"
+says door/err "  expected  room for one more open file and its buffers within 10 seconds"
+says door/err "  found     Too many open files"
+says door/err "  do        "
+{ head -c 196608 kept.img; hex 0A; tail -c 851967 kept.img; } >want
+same door/board.img want
+ended "$door_client"
 
 finish
