@@ -159,6 +159,12 @@ static bool is_documented(int status)
     return status >= 0 && status <= 10;
 }
 
+/* Whether it is a signal that ends what takes too long. */
+static bool is_time(int number)
+{
+    return number == SIGALRM || number == SIGKILL || number == SIGXCPU;
+}
+
 static struct verdict judge(const struct place *place, int how, bool strays)
 {
     struct verdict verdict = { WIFEXITED(how) ? WEXITSTATUS(how) : -WTERMSIG(how), NULL };
@@ -166,8 +172,7 @@ static struct verdict judge(const struct place *place, int how, bool strays)
     left.output = false;
     bool emptied = nftw(place->turn, look_and_remove, 8, FTW_DEPTH | FTW_PHYS) == 0;
     if (!WIFEXITED(how)) {
-        verdict.wrong = WTERMSIG(how) == SIGALRM || WTERMSIG(how) == SIGKILL || WTERMSIG(how) == SIGXCPU ? "no end in time"
-                                                                                                         : "ended by a signal";
+        verdict.wrong = is_time(WTERMSIG(how)) ? "no end in time" : "ended by a signal";
     } else if (verdict.status == SPOKE) {
         verdict.wrong = "a sanitizer spoke";
     } else if (verdict.status == 70) {
@@ -245,8 +250,8 @@ bool place_make(struct place *place)
     bool made = named(place->folder, above != NULL && above[0] != '\0' ? above : P_tmpdir, "fuzz-XXXXXX") &&
                 mkdtemp(place->folder) != NULL && named(place->told, place->folder, "told") &&
                 named(place->turn, place->folder, "turn") && mkdir(place->turn, 0700) == 0 && back >= 0 &&
-                chdir(place->folder) == 0 && common_files() && fchdir(back) == 0 && sigaction(SIGALRM, &ours, NULL) == 0 &&
-                signal(SIGPIPE, SIG_IGN) != SIG_ERR;
+                chdir(place->folder) == 0 && common_files() && fchdir(back) == 0 &&
+                sigaction(SIGALRM, &ours, NULL) == 0;
     if (!made) {
         (void)fprintf(stderr, "fuzz: no folder can be made for the turns: %s\n", strerror(errno));
         return false;

@@ -82,8 +82,8 @@ static void tell_told(const struct place *place)
 static void keep(const struct asked *asked, const struct kind *kind, const struct input *input, uint64_t number)
 {
     char path[PATH_MAX];
-    int length = snprintf(path, sizeof path, "%s/%s-%llu-%llu", found_folder, kind->name, (unsigned long long)asked->seed,
-                          (unsigned long long)number);
+    int length = snprintf(path, sizeof path, "%s/%s-%llu-%llu", found_folder, kind->name,
+                          (unsigned long long)asked->seed, (unsigned long long)number);
     (void)mkdir("build", 0777);
     (void)mkdir(found_folder, 0777);
     FILE *file = length > 0 ? fopen(path, "wb") : NULL;
@@ -95,10 +95,16 @@ static void keep(const struct asked *asked, const struct kind *kind, const struc
     }
 }
 
+struct wanted {
+    uint64_t seed;
+    uint64_t turn;
+};
+
 /* The input of a turn: the seeds as they are, then seeds that were spoiled. It depends on seed, kind and turn alone. */
-static void make_input(struct input *out, const struct kind *kind, const struct seeds *seeds, uint64_t seed, uint64_t number)
+static void make_input(struct input *out, const struct kind *kind, const struct seeds *seeds, struct wanted wanted)
 {
-    struct draws draws = { seed * 1000003U + (uint64_t)(kind - kinds) };
+    struct draws draws = { wanted.seed * 1000003U + (uint64_t)(kind - kinds) };
+    uint64_t number = wanted.turn;
     draws.state = draw(&draws) + number;
     draws.state = draw(&draws);
     bool spoiled = number >= seeds->count;
@@ -118,13 +124,13 @@ static void take_turn(const struct asked *asked, const struct place *place, cons
 {
     static struct input input;
     uint64_t number = tally->turns++;
-    make_input(&input, kind, seeds, asked->seed, number);
+    make_input(&input, kind, seeds, (struct wanted){ asked->seed, number });
     struct verdict verdict = turn(place, kind, &input, false);
     tally->statuses[verdict.status & (STATUSES - 1)]++;
     if (verdict.wrong != NULL) {
         tally->failures++;
-        (void)fprintf(stderr, "fuzz: %s, turn %llu: %s; status %d\n", kind->name, (unsigned long long)number, verdict.wrong,
-                      verdict.status);
+        (void)fprintf(stderr, "fuzz: %s, turn %llu: %s; status %d\n", kind->name, (unsigned long long)number,
+                      verdict.wrong, verdict.status);
         tell_told(place);
         keep(asked, kind, &input, number);
     }

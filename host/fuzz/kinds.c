@@ -24,7 +24,8 @@
 /* A child that cannot make its files ends with this, which is no status of bay. */
 enum { NO_FILES = 98 };
 
-static uint8_t image_room[2 * POD_IMAGE_BYTES];
+enum { IMAGE_MOST = 2 * POD_IMAGE_BYTES };
+static uint8_t image_room[IMAGE_MOST];
 
 static bool file_put(const char *path, const uint8_t *at, size_t length)
 {
@@ -62,7 +63,9 @@ static int bay(char **words)
     static const struct {
         const char *name;
         int (*carry_out)(int count, char **words);
-    } commands[] = { { "run", command_run }, { "trace", command_trace }, { "rack", command_rack }, { "sheet", command_sheet } };
+    } commands[] = {
+        { "run", command_run }, { "trace", command_trace }, { "rack", command_rack }, { "sheet", command_sheet }
+    };
     int count = 0;
     while (words[count] != NULL) {
         count++;
@@ -80,7 +83,7 @@ static int bay(char **words)
  * each for an equal share. */
 static size_t image_make(const uint8_t *recipe, size_t length)
 {
-    static const size_t lengths[] = { 0, 1, POD_IMAGE_BYTES - 1, POD_IMAGE_BYTES + 1, 2 * POD_IMAGE_BYTES,
+    static const size_t lengths[] = { 0, 1, POD_IMAGE_BYTES - 1, POD_IMAGE_BYTES + 1, IMAGE_MOST,
                                       POD_BLOCK_BYTES, POD_IMAGE_BYTES / 2, 4096 };
     enum { RIGHT = 0xE0 };
     size_t bytes = length == 0 ? 0 : POD_IMAGE_BYTES;
@@ -179,8 +182,10 @@ static int carry_track(const struct task *task)
  * folder, a link that leads nowhere), two bytes for its length, and its bytes. Gives the length of it all. */
 static size_t put_entry(const uint8_t *at, size_t length)
 {
-    static const char *const places[] = { "bays/harness.track", "bays/bay01.img",    "bays/bay01.stream", "bays/bay01.sheet",
-                                          "bays/bay12.img",     "bays/bay12.stream", "bays/bay12.sheet",  "bays/bay02.stream" };
+    static const char *const places[] = {
+        "bays/harness.track", "bays/bay01.img",    "bays/bay01.stream", "bays/bay01.sheet",
+        "bays/bay12.img",     "bays/bay12.stream", "bays/bay12.sheet",  "bays/bay02.stream",
+    };
     enum { FRONT = 3, FOLDER = 1, LINK = 2 };
     if (length < FRONT) {
         return length;
@@ -281,5 +286,6 @@ static size_t short_stream(uint8_t *stream)
 bool common_files(void)
 {
     memset(image_room, 0xA5, POD_IMAGE_BYTES);
-    return file_put("board.img", image_room, POD_IMAGE_BYTES) && file_put("short.stream", image_room, short_stream(image_room));
+    return file_put("board.img", image_room, POD_IMAGE_BYTES) &&
+           file_put("short.stream", image_room, short_stream(image_room));
 }

@@ -12,9 +12,9 @@ struct task {
     int line;
 };
 
-/* line: the input comes over a line, at whose other end the driver is. mend: makes good what would hide all else; may be
- * null. carry_out: done in a child in an empty folder, beside which the common files stand; gives bay's status. What bay
- * leaves whole or not at all is called out.* there. */
+/* line: the input comes over a line, at whose other end the driver is. mend: makes good what would hide all else; may
+ * be null. carry_out: done in a child in an empty folder, beside which the common files stand; gives bay's status. What
+ * bay leaves whole or not at all is called out.* there. */
 struct kind {
     const char *name;
     bool line;

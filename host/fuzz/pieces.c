@@ -98,8 +98,10 @@ static size_t __attribute__((format(printf, 2, 3))) say(uint8_t *room, const cha
 
 size_t piece_pull(struct draws *draws, uint8_t *room)
 {
-    static const char *const pulls[] = { "wp low", "wp high", "tbl low", "tbl high", "voltage 0", "voltage 2", "voltage 3",
-                                         "wp", "wp low tbl low", "# wp low", "wp low#", "voltage 4" };
+    static const char *const pulls[] = {
+        "wp low",    "wp high", "tbl low",        "tbl high", "voltage 0", "voltage 2",
+        "voltage 3", "wp",      "wp low tbl low", "# wp low", "wp low#",   "voltage 4",
+    };
     static const char *const ends[] = { "\n", "\n", "\r\n", "", " \n", "#\n" };
     const char *pull = pulls[draw_below(draws, sizeof pulls / sizeof pulls[0])];
     const char *end = ends[draw_below(draws, sizeof ends / sizeof ends[0])];
@@ -117,9 +119,11 @@ size_t piece_words(struct draws *draws, uint8_t *room)
 
 size_t piece_sheet(struct draws *draws, uint8_t *room)
 {
-    uint32_t number = pod_sheet_write(room, PIECE_MOST, (uint32_t)draw_below(draws, 16), 1 + (uint32_t)draw_below(draws, 200),
-                                      1 + (uint32_t)draw_below(draws, 39062), 1 + (uint32_t)draw_below(draws, 30));
-    return number == 0 ? POD_SHEET_BYTES : 0;
+    uint32_t straps = (uint32_t)draw_below(draws, POD_STRAPS_MOST + 1);
+    uint32_t program = 1 + (uint32_t)draw_below(draws, POD_PROGRAM_MOST);
+    uint32_t slice = 1 + (uint32_t)draw_below(draws, POD_SLICE_MOST);
+    uint32_t pause = 1 + (uint32_t)draw_below(draws, POD_PAUSE_MOST);
+    return pod_sheet_write(room, PIECE_MOST, straps, program, slice, pause) == 0 ? POD_SHEET_BYTES : 0;
 }
 
 /* One file of a rack's folder, with what kinds.c tells of its front. */

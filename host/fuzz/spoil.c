@@ -27,10 +27,11 @@ bool draw_one_in(struct draws *draws, size_t bound)
 
 uint32_t draw_border(struct draws *draws)
 {
-    static const uint32_t borders[] = { 0,     1,     2,     3,     4,      15,      16,        30,        31,        200,
-                                        201,   255,   256,   4095,  4096,   4097,    8191,      32767,     32768,     39062,
-                                        39063, 65535, 65536, 65537, 131072, 1048576, 16777215U, 16777216U, 2147483647U,
-                                        2147483648U, 4294967295U };
+    static const uint32_t borders[] = {
+        0,     1,    2,    3,    4,     15,    16,    30,    31,    200,    201,     255,       256,       UINT32_MAX,
+        4095,  4096, 4097, 8191, 32767, 32768, 39062, 39063, 65535, 131072, 1048576, INT32_MAX, 16777215U, 16777216U,
+        65536, 65537,
+    };
     uint32_t border = borders[draw_below(draws, sizeof borders / sizeof borders[0])];
     return draw_one_in(draws, 4) ? (uint32_t)draw(draws) : border;
 }

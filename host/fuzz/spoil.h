@@ -29,8 +29,8 @@ struct input {
 /* A number that depends on every byte of the input. */
 uint64_t input_sum(const struct input *input);
 
-/* How a kind of input is spoiled. group: how many of the bytes that are left belong together, at least one of them. text:
- * it is read as words and numbers. piece: makes a part of such an input that is as it should be, or is null. */
+/* How a kind of input is spoiled. group: how many of the bytes that are left belong together, at least one of them.
+ * text: it is read as words and numbers. piece: makes a part of such an input that is as it should be, or is null. */
 struct style {
     size_t (*group)(const uint8_t *at, size_t left);
     bool text;
