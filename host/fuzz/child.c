@@ -19,7 +19,7 @@
 
 /* SECONDS: what a child may take; the driver waits for GRACE more. One turn in LEAKS looks for lost memory at its end,
  * which takes much longer than the turn. */
-enum { SECONDS = 10, GRACE = 2, FILE_MOST = 64 << 20, FILES_MOST = 64, LEAKS = 16, SPOKE = 99, TOLD_MOST = 1 << 20 };
+enum { SECONDS = 10, GRACE = 2, FILE_MOST = 64 << 20, FILES_MOST = 64, LEAKS = 6, SPOKE = 99, TOLD_MOST = 1 << 20 };
 
 #ifdef __SANITIZE_ADDRESS__
 /* A sanitizer that speaks ends the child with a status that bay does not have. */

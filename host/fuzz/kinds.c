@@ -1,6 +1,7 @@
 /* Each kind of input as a command of bay is given it. */
 #include "kinds.h"
 
+#include "agree.h"
 #include "bay/bench.h"
 #include "bay/commands.h"
 #include "bay/link.h"
@@ -144,11 +145,17 @@ static int carry_words(const struct task *task)
 {
     char *ways[][10] = {
         { "sheet", "write", "out.sheet", "--words", "in", NULL },
-        { "sheet", "write", "-", "--words", "-", NULL },
+        { "sheet", "write", "out.sheet", "--words", "-", NULL },
+        { "sheet", "write", "-", "--words", "in", NULL },
     };
+    size_t way = task->choice % (sizeof ways / sizeof ways[0]);
     must_put("in", task->input->at, task->input->length);
     must_stand_in("in");
-    return bay(ways[task->choice % (sizeof ways / sizeof ways[0])]);
+    int status = bay(ways[way]);
+    if (status == 0 && way < 2 && !words_agree(task->input, "out.sheet")) {
+        return trouble(TROUBLE_SOFTWARE, "the sheet does not hold what the words say");
+    }
+    return status;
 }
 
 /* Mostly the track alone, laid over streams that end where their memory ends; now and then under a rack of one bay. */
@@ -224,7 +231,7 @@ static int carry_rack(const struct task *task)
 /* A server over a line, with what bay serve does behind it. */
 static int carry_serprog(const struct task *task)
 {
-    static const struct settings settings[] = { { 0, 10, 1, 30 }, { 0, 1, 1, 1 }, { 15, 200, 20, 30 } };
+    static const struct settings settings[] = { { 0, 10, 1, 30 }, { 0, 1, 1, 1 }, { 15, 200, 2, 30 } };
     static struct link link;
     static struct serprog serprog;
     struct bench bench = { .image = image_room, .image_length = POD_IMAGE_BYTES, .idle = POD_SAMPLE_IDLE };
@@ -237,7 +244,7 @@ static int carry_serprog(const struct task *task)
     link.client = task->line;
     link.stop = stop[0];
     link.idle = client_manner(task->choice) == MANNER_SILENT ? 20 : 5000;
-    link.until = milliseconds() + 9000;
+    link.until = milliseconds() + 1000;
     serprog.link = &link;
     serprog.bench = &bench;
     serprog.rest = task->choice % 2 == 0 ? 0 : (uint64_t)100 * POD_CLOCKS_PER_MICROSECOND;
@@ -245,7 +252,7 @@ static int carry_serprog(const struct task *task)
     (void)close(task->line);
     bench_settle(&bench);
     bool ready = (pod_status(bench.device) & POD_STATUS_READY) != 0;
-    bool sound = bench.refusal == 0 && ready && link.why != NULL && link.why != link_over && link.why != link_ended;
+    bool sound = bench.refusal == 0 && ready && link.why != NULL && link.why != link_ended;
     if (!sound || serprog.length > SERPROG_BUFFER || link.in_at > link.in_end || link.out_end > LINK_ROOM) {
         return trouble(TROUBLE_SOFTWARE, "the server is not as it should be: refusal %u, %s", (unsigned)bench.refusal,
                        link.why != NULL ? link.why : "no end");
@@ -260,7 +267,7 @@ const struct kind kinds[KINDS] = {
     { "words", false, { group_line, true, piece_words }, NULL, carry_words },
     { "track", false, { group_line, true, piece_pull }, NULL, carry_track },
     { "rack", false, { group_entry, false, piece_entry }, NULL, carry_rack },
-    { "serprog", true, { group_request, false, piece_request }, NULL, carry_serprog },
+    { "serprog", true, { group_request, false, piece_request }, mend_requests, carry_serprog },
 };
 
 /* A stream with an erase, a program and reads, for those kinds that spoil something else. */

@@ -219,3 +219,24 @@ size_t group_entry(const uint8_t *at, size_t left)
 {
     return left < 3 ? left : at_most(3 + ((size_t)at[1] | (size_t)at[2] << 8), left);
 }
+
+/* Requests are cut where they take long, and read no more bytes than a few times the most that one may read. */
+void mend_requests(struct input *input, struct draws *draws)
+{
+    enum { REQUESTS_MOST = 48 * 1024, ONE_READ_MOST = 65536, READ_MOST = 2 * ONE_READ_MOST };
+    size_t read = 0;
+    (void)draws;
+    input->length = at_most(input->length, REQUESTS_MOST);
+    for (size_t at = 0; at < input->length;) {
+        uint8_t *request = input->at + at;
+        size_t length = group_request(request, input->length - at);
+        if (request[0] == 0x0A && length == 7) {
+            size_t bytes = (size_t)request[4] | (size_t)request[5] << 8 | (size_t)request[6] << 16;
+            read += bytes <= ONE_READ_MOST ? bytes : 0;
+            if (bytes <= ONE_READ_MOST && read > READ_MOST) {
+                (void)put24(request + 4, 1);
+            }
+        }
+        at += length;
+    }
+}

@@ -19,8 +19,10 @@ size_t group_line(const uint8_t *at, size_t left);
 size_t group_request(const uint8_t *at, size_t left);
 size_t group_entry(const uint8_t *at, size_t left);
 
-/* Mends what would have a stream or a sheet refused at its first look, most of the time. */
+/* Mends what would have a stream or a sheet refused at its first look, most of the time, and what would have a server
+ * do honest work for longer than a turn may take. */
 void mend_stream(struct input *input, struct draws *draws);
 void mend_sheet(struct input *input, struct draws *draws);
+void mend_requests(struct input *input, struct draws *draws);
 
 #endif
