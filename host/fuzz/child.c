@@ -37,6 +37,12 @@ const char *__ubsan_default_options(void)
 }
 #endif
 
+/* In place of the system's: no turn waits for the disk, on which nothing is to stay. */
+int fsync(int file)
+{
+    return fcntl(file, F_GETFD) < 0 ? -1 : 0;
+}
+
 /* The child that is waited for, so that its time can be ended. */
 static volatile sig_atomic_t waited_for;
 

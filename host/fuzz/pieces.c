@@ -220,21 +220,22 @@ size_t group_entry(const uint8_t *at, size_t left)
     return left < 3 ? left : at_most(3 + ((size_t)at[1] | (size_t)at[2] << 8), left);
 }
 
-/* Requests are cut where they take long, and read no more bytes than a few times the most that one may read. */
+/* Requests are cut where they take long, and read no more bytes than a line holds a few times, or seldom the most. */
 void mend_requests(struct input *input, struct draws *draws)
 {
-    enum { REQUESTS_MOST = 48 * 1024, ONE_READ_MOST = 65536, READ_MOST = 2 * ONE_READ_MOST };
+    enum { REQUESTS_MOST = 48 * 1024, ONE_READ_MOST = 65536, USUAL_READ = 10000, SELDOM = 32 };
     size_t read = 0;
-    (void)draws;
+    size_t most = draw_one_in(draws, SELDOM) ? ONE_READ_MOST : USUAL_READ;
     input->length = at_most(input->length, REQUESTS_MOST);
     for (size_t at = 0; at < input->length;) {
         uint8_t *request = input->at + at;
         size_t length = group_request(request, input->length - at);
         if (request[0] == 0x0A && length == 7) {
             size_t bytes = (size_t)request[4] | (size_t)request[5] << 8 | (size_t)request[6] << 16;
-            read += bytes <= ONE_READ_MOST ? bytes : 0;
-            if (bytes <= ONE_READ_MOST && read > READ_MOST) {
+            if (bytes <= ONE_READ_MOST && bytes > most - read) {
                 (void)put24(request + 4, 1);
+            } else if (bytes <= ONE_READ_MOST) {
+                read += bytes;
             }
         }
         at += length;
