@@ -78,6 +78,8 @@ static void settle_in(const struct place *place, bool loud)
     limit(RLIMIT_NOFILE, FILES_MOST);
     limit(RLIMIT_CORE, 0);
     (void)signal(SIGALRM, SIG_DFL);
+    (void)signal(SIGINT, SIG_DFL);
+    (void)signal(SIGTERM, SIG_DFL);
     (void)signal(SIGXFSZ, SIG_IGN); /* as bay's main has it */
     (void)alarm(SECONDS);
 }

@@ -6,6 +6,7 @@
 
 #include <errno.h>
 #include <limits.h>
+#include <signal.h>
 #include <stdio.h>
 #include <stdlib.h>
 #include <string.h>
@@ -13,7 +14,7 @@
 #include <time.h>
 
 /* A kind that fails so often is left, since the first failures tell enough. */
-enum { USUAL_SECONDS = 600, FAILURES_MOST = 5, STATUSES = 256, EXIT_USAGE = 64, TOLD_LINES = 12 };
+enum { USUAL_SECONDS = 600, FAILURES_MOST = 3, STATUSES = 256, EXIT_USAGE = 64, TOLD_LINES = 12 };
 
 static const char usage[] =
     "fuzz [options] SEEDS: everything of bay that reads a file or a socket, on inputs that were spoiled\n"
@@ -47,6 +48,15 @@ struct tally {
     uint64_t failures;
     uint64_t statuses[STATUSES];
 };
+
+/* Set once the driver is to end; the turn under way is still judged. */
+static volatile sig_atomic_t ended;
+
+static void on_signal(int number)
+{
+    (void)number;
+    ended = 1;
+}
 
 static int64_t milliseconds_now(void)
 {
@@ -156,7 +166,7 @@ static bool fuzz_kind(const struct asked *asked, const struct place *place, cons
     struct tally tally = { 0 };
     int64_t began = milliseconds_now();
     bool ready = seeds_read(asked->seeds, kind->name, &seeds);
-    while (ready && tally.failures < FAILURES_MOST) {
+    while (ready && tally.failures < FAILURES_MOST && ended == 0) {
         bool more = asked->turns > 0 ? tally.turns < asked->turns : milliseconds_now() - began < share;
         if (!more && (asked->turns > 0 || tally.turns >= seeds.count)) {
             break;
@@ -173,11 +183,11 @@ static int fuzz(const struct asked *asked, const struct place *place)
     unsigned passed = 0;
     unsigned failed = 0;
     int64_t share = (int64_t)asked->seconds * 1000 / (asked->only != NULL ? 1 : KINDS);
-    for (size_t i = 0; i < KINDS; i++) {
+    for (size_t i = 0; i < KINDS && ended == 0; i++) {
         if (asked->only != NULL && strcmp(asked->only, kinds[i].name) != 0) {
             continue;
         }
-        if (fuzz_kind(asked, place, &kinds[i], share)) {
+        if (fuzz_kind(asked, place, &kinds[i], share) && ended == 0) {
             passed++;
         } else {
             failed++;
@@ -255,6 +265,8 @@ int main(int count, char **words)
     if (!place_make(&place)) {
         return 1;
     }
+    (void)signal(SIGINT, on_signal);
+    (void)signal(SIGTERM, on_signal);
     int status = asked.replay != NULL ? replay(&asked, &place) : fuzz(&asked, &place);
     place_remove(&place);
     return status;
