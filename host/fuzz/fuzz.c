@@ -152,7 +152,9 @@ static void tell_kind(const struct kind *kind, const struct tally *tally, int64_
     (void)printf("%-8s %7llu turns, %4llu a second; status", kind->name, (unsigned long long)tally->turns, second);
     for (int i = 0; i < STATUSES; i++) {
         if (tally->statuses[i] != 0) {
-            (void)printf("  %d: %llu", i, (unsigned long long)tally->statuses[i]);
+            bool by_signal = i > STATUSES / 2;
+            (void)printf("  %s%d: %llu", by_signal ? "signal " : "", by_signal ? STATUSES - i : i,
+                         (unsigned long long)tally->statuses[i]);
         }
     }
     (void)printf("%s\n", tally->failures == 0 ? "" : "  failed");
