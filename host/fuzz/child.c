@@ -35,6 +35,10 @@ const char *__ubsan_default_options(void)
 {
     return "exitcode=99:print_stacktrace=1";
 }
+
+static const bool watched = true;
+#else
+static const bool watched = false;
 #endif
 
 /* In place of the system's: no turn waits for the disk, on which nothing is to stay. */
@@ -233,6 +237,9 @@ struct verdict turn(const struct place *place, const struct kind *kind, const st
 /* Whether a child that loses nothing is told so: where a child may not be looked into, it is not. */
 static bool can_look_for_leaks(const struct place *place)
 {
+    if (!watched) {
+        return false;
+    }
     pid_t child = fork();
     if (child == 0) {
         settle_in(place, false);
