@@ -74,7 +74,12 @@ static int settings_from_words(const char *path, struct settings *out)
     if (status != 0) {
         return status;
     }
-    char text[WORDS_MOST + 2] = "";
+    if (file.more || memchr(file.at, '\0', file.length) != NULL) {
+        bool more = file.more;
+        bytes_free(&file);
+        return bad_words(path, more ? "a file that goes on for long" : "bytes that are no text");
+    }
+    char text[WORDS_MOST + 1] = "";
     memcpy(text, file.at, file.length);
     int seen = 0;
     char *rest = NULL;
