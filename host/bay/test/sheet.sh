@@ -94,9 +94,9 @@ case_ "words that go on for long, or are no text, are turned away and not cut"
 { printf 'straps 0\nprogram 10\nslice 3906\npause 30\n'; printf '%5000s\n' ''; } >tail
 printf 'straps 0\nprogram 10\nslice 3906\npause 30\n\0straps 7 and anything else\n' >zero
 for words in long tail zero "$root/host/fuzz/seeds/words/cut-number" "$root/host/fuzz/seeds/words/zero-byte"; do
-    gives 65 bay sheet write new.sheet --words "$words"
+    gives 65 bay sheet write never.sheet --words "$words"
     explains
-    absent new.sheet
+    absent never.sheet
 done
 
 case_ "a command line that is not one"
