@@ -91,9 +91,9 @@ tidy
 
 case_ "words that go on for long, or are no text, are turned away and not cut"
 { printf 'straps 0\nprogram 10\nslice 3906\npause 3'; yes '' | head -c 4060 | tr '\n' ' '; printf '0\n'; } >long
-{ printf 'straps 0\nprogram 10\nslice 3906\npause 30\n'; printf '%5000s\n' ''; } >tail
+{ printf 'straps 0\nprogram 10\nslice 3906\npause 30\n'; printf '%5000s\n' ''; } >trailing
 printf 'straps 0\nprogram 10\nslice 3906\npause 30\n\0straps 7 and anything else\n' >zero
-for words in long tail zero "$root/host/fuzz/seeds/words/cut-number" "$root/host/fuzz/seeds/words/zero-byte"; do
+for words in long trailing zero "$root/host/fuzz/seeds/words/cut-number" "$root/host/fuzz/seeds/words/zero-byte"; do
     gives 65 bay sheet write never.sheet --words "$words"
     explains
     absent never.sheet
