@@ -1,19 +1,24 @@
-/* Taking signals over and giving them back. */
+/* Taking signals over, holding them back, and giving them back. */
 #include "signals.h"
 
-#include <signal.h>
 #include <stddef.h>
 #include <string.h>
 
 static const int numbers[SIGNALS] = { SIGINT, SIGTERM, SIGHUP, SIGPIPE, SIGALRM };
 
+static struct sigaction action(signal_handler *handler, int flags)
+{
+    struct sigaction action;
+    memset(&action, 0, sizeof action);
+    action.sa_handler = handler;
+    action.sa_flags = flags;
+    (void)sigemptyset(&action.sa_mask);
+    return action;
+}
+
 void signals_take(struct signals *signals, signal_handler *handler, int flags)
 {
-    struct sigaction ours;
-    memset(&ours, 0, sizeof ours);
-    ours.sa_handler = handler;
-    ours.sa_flags = flags;
-    (void)sigemptyset(&ours.sa_mask);
+    const struct sigaction ours = action(handler, flags);
     for (size_t i = 0; i < SIGNALS; i++) {
         struct sigaction now;
         bool free = sigaction(numbers[i], NULL, &now) == 0 && now.sa_handler == SIG_DFL;
@@ -23,9 +28,25 @@ void signals_take(struct signals *signals, signal_handler *handler, int flags)
 
 void signals_give_back(const struct signals *signals)
 {
+    const struct sigaction usual = action(SIG_DFL, 0);
     for (size_t i = 0; i < SIGNALS; i++) {
         if (signals->taken[i]) {
-            (void)signal(numbers[i], SIG_DFL);
+            (void)sigaction(numbers[i], &usual, NULL);
         }
     }
+}
+
+void signals_hold(struct held *held)
+{
+    sigset_t ours;
+    (void)sigemptyset(&ours);
+    for (size_t i = 0; i < SIGNALS; i++) {
+        (void)sigaddset(&ours, numbers[i]);
+    }
+    (void)sigprocmask(SIG_BLOCK, &ours, &held->before);
+}
+
+void signals_let(const struct held *held)
+{
+    (void)sigprocmask(SIG_SETMASK, &held->before, NULL);
 }

@@ -1,7 +1,8 @@
-/* The signals by which someone, or a clock, ends a program, taken over for a while. */
+/* The signals by which someone, or a clock, ends a program, taken over for a while or held back for a moment. */
 #ifndef BAY_SIGNALS_H
 #define BAY_SIGNALS_H
 
+#include <signal.h>
 #include <stdbool.h>
 
 enum { SIGNALS = 5 };
@@ -19,5 +20,14 @@ void signals_take(struct signals *signals, signal_handler *handler, int flags);
 
 /* Gives back what was taken. */
 void signals_give_back(const struct signals *signals);
+
+/* What was held back before. */
+struct held {
+    sigset_t before;
+};
+
+/* Holds the same signals back: what is done until they are let through is not interrupted by them. */
+void signals_hold(struct held *held);
+void signals_let(const struct held *held);
 
 #endif
