@@ -1,6 +1,6 @@
-/* What stands beside a target `x` while it is saved: `.bay-HASH.lock`, `.bay-HASH.draft` and `.bay-HASH.old`, where HASH
- * is made from the name x. Whoever holds the lock has all three. What nobody holds is left over from a bay that was
- * killed, and the next save of x removes it. */
+/* What stands beside a target `x` while it is saved: `.bay-HASH.lock`, `.bay-HASH.draft` and `.bay-HASH.old`, where
+ * HASH is made from the name x. Whoever holds the lock has all three. What nobody holds is left over from a bay that
+ * was killed, and the next save of x removes it. */
 #ifndef BAY_BESIDE_H
 #define BAY_BESIDE_H
 

@@ -60,24 +60,15 @@ static int not_placed(const char *path, int error)
                    path, strerror(error));
 }
 
-static int not_synced(const char *path, int error)
-{
-    return trouble(TROUBLE_OUTPUT, "%s is new, but its folder could not be brought to disk\n"
-                                   "  expected  a folder that outlasts a power cut\n"
-                                   "  found     %s; after a power cut the old file may be back\n"
-                                   "  do        look after the disk, and run again",
-                   path, strerror(error));
-}
-
-/* The files that are new, each with the place of its old one, or those that are as before. */
-static void list_files(char *list, bool is_new)
+/* The files that are new, or those that are as before; tells_old: each with the place of its old one. */
+static void list_files(char *list, bool is_new, bool tells_old)
 {
     size_t length = 0;
     list[0] = '\0';
     for (size_t i = 0; i < draft_count; i++) {
         const struct beside *beside = &drafts[i].beside;
         if ((beside->placed != 0) == is_new && length < LIST_ROOM) {
-            bool tells = is_new && beside->target.there;
+            bool tells = tells_old && beside->target.there;
             int more = snprintf(list + length, LIST_ROOM - length, "%s%s%s%s%s", length > 0 ? ", " : "", drafts[i].said,
                                 tells ? " (the old one is " : "", tells ? beside->old : "", tells ? ")" : "");
             length += more > 0 ? (size_t)more : 0;
@@ -85,12 +76,23 @@ static void list_files(char *list, bool is_new)
     }
 }
 
+static int not_synced(int error)
+{
+    char now_new[LIST_ROOM];
+    list_files(now_new, true, false);
+    return trouble(TROUBLE_OUTPUT, "a folder could not be brought to disk\n"
+                                   "  expected  a folder that outlasts a power cut\n"
+                                   "  found     %s; new: %s, but a power cut may bring the old back\n"
+                                   "  do        look after the disk, and run again",
+                   strerror(error), now_new);
+}
+
 static int torn(const char *path, int error, int back)
 {
     char now_new[LIST_ROOM];
     char as_before[LIST_ROOM];
-    list_files(now_new, true);
-    list_files(as_before, false);
+    list_files(now_new, true, true);
+    list_files(as_before, false, false);
     return trouble(TROUBLE_OUTPUT, "%s could not be put in place, and what was in place already could not be put back\n"
                                    "  expected  a folder in which a file may be renamed\n"
                                    "  found     %s, then %s; new: %s; as before: %s\n"
@@ -111,13 +113,13 @@ static void drop_all(void)
 static void on_signal(int number)
 {
     drop_all();
-    (void)raise(number); /* its own disposition is back in place, so this ends the program as the sender meant */
+    signals_end_by(number);
 }
 
 void drafts_begin(void)
 {
     draft_count = 0;
-    signals_take(&signals, on_signal, (int)(SA_RESETHAND | SA_NODEFER));
+    signals_take(&signals, on_signal, 0);
 }
 
 void drafts_end(void)
@@ -206,7 +208,6 @@ static int put_all_back(void)
 int drafts_place(void)
 {
     int error = 0;
-    int then = 0;
     size_t at = 0;
     struct held held;
     signals_hold(&held);
@@ -214,14 +215,15 @@ int drafts_place(void)
         error = beside_place(&drafts[at].beside);
         at += error == 0 ? 1 : 0;
     }
-    then = error == 0 ? sync_folders() : put_all_back();
-    signals_let(&held);
-    if (error == 0) {
-        return then == 0 ? 0 : not_synced(drafts[at - 1].said, then);
-    }
-    const char *path = drafts[at].said;
+    int then = error == 0 ? sync_folders() : put_all_back();
+    int status = 0;
     if (then != 0) {
-        return torn(path, error, then);
+        /* said before a signal can end bay, since nobody would know otherwise */
+        status = error == 0 ? not_synced(then) : torn(drafts[at].said, error, then);
     }
-    return error == EWOULDBLOCK ? busy(path) : not_placed(path, error);
+    signals_let(&held);
+    if (error == 0 || status != 0) {
+        return status;
+    }
+    return error == EWOULDBLOCK ? busy(drafts[at].said) : not_placed(drafts[at].said, error);
 }

@@ -4,7 +4,8 @@
 
 #include <stddef.h>
 
-/* Opens and closes a round of at most four drafts. In between, a signal removes what stands beside before it ends bay. */
+/* Opens and closes a round of at most four drafts. In between, a signal removes what stands beside before it ends
+ * bay. */
 void drafts_begin(void);
 void drafts_end(void);
 

@@ -125,8 +125,8 @@ static void run_bay(const struct rack *rack, unsigned number, struct outcome *ou
     load_free(&load);
 }
 
-/* The life of a bay's process, which has the writing end of the pipe. It begins with the signals held back, so that none
- * comes to what it has of the rack's own. */
+/* The life of a bay's process, which has the writing end of the pipe. It begins with the signals held back, so that
+ * none is lost on the rack's handler. */
 static _Noreturn void bay_process(const struct rack *rack, struct bay *bay, const struct held *held)
 {
     struct outcome *outcome = &bay->outcome;
@@ -320,7 +320,7 @@ static int run_rack(const struct rack *rack)
     end_bays(bays);
     signals_give_back(&signals);
     if (ended_by != 0) {
-        (void)raise(ended_by);
+        signals_end_by(ended_by);
     }
     if (status != 0) {
         return status;

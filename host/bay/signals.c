@@ -6,13 +6,23 @@
 
 static const int numbers[SIGNALS] = { SIGINT, SIGTERM, SIGHUP, SIGPIPE, SIGALRM };
 
+static sigset_t all_of_them(void)
+{
+    sigset_t all;
+    (void)sigemptyset(&all);
+    for (size_t i = 0; i < SIGNALS; i++) {
+        (void)sigaddset(&all, numbers[i]);
+    }
+    return all;
+}
+
 static struct sigaction action(signal_handler *handler, int flags)
 {
     struct sigaction action;
     memset(&action, 0, sizeof action);
     action.sa_handler = handler;
     action.sa_flags = flags;
-    (void)sigemptyset(&action.sa_mask);
+    action.sa_mask = all_of_them();
     return action;
 }
 
@@ -36,13 +46,20 @@ void signals_give_back(const struct signals *signals)
     }
 }
 
+void signals_end_by(int number)
+{
+    const struct sigaction usual = action(SIG_DFL, 0);
+    sigset_t one;
+    (void)sigemptyset(&one);
+    (void)sigaddset(&one, number);
+    (void)sigaction(number, &usual, NULL);
+    (void)raise(number);
+    (void)sigprocmask(SIG_UNBLOCK, &one, NULL);
+}
+
 void signals_hold(struct held *held)
 {
-    sigset_t ours;
-    (void)sigemptyset(&ours);
-    for (size_t i = 0; i < SIGNALS; i++) {
-        (void)sigaddset(&ours, numbers[i]);
-    }
+    const sigset_t ours = all_of_them();
     (void)sigprocmask(SIG_BLOCK, &ours, &held->before);
 }
 

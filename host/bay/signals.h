@@ -15,11 +15,14 @@ struct signals {
 typedef void signal_handler(int number);
 
 /* Takes SIGINT, SIGTERM, SIGHUP, SIGPIPE and SIGALRM over, but for those that are ignored, since whoever started bay so
- * meant it, and those that have been taken before. */
+ * meant it, and those that have been taken before. While the handler runs, all of them are held back. */
 void signals_take(struct signals *signals, signal_handler *handler, int flags);
 
 /* Gives back what was taken. */
 void signals_give_back(const struct signals *signals);
+
+/* Ends the program by this signal, as its sender meant. A handler may call it. */
+void signals_end_by(int number);
 
 /* What was held back before. */
 struct held {
