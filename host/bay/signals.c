@@ -53,8 +53,8 @@ void signals_end_by(int number)
     (void)sigemptyset(&one);
     (void)sigaddset(&one, number);
     (void)sigaction(number, &usual, NULL);
-    (void)raise(number);
     (void)sigprocmask(SIG_UNBLOCK, &one, NULL);
+    (void)raise(number);
 }
 
 void signals_hold(struct held *held)

@@ -2,13 +2,12 @@
 # What bay promises about files, with the program killed, interrupted and refused at each file operation in turn.
 . "$(dirname "$0")/lib.sh"
 
-make_image board.img
+make_image board.img && cp board.img new.img
 printf 'read FBC0000\n' | lay >maker.stream
 echo old >old
 bay run board.img maker.stream --answers new.answers >new.report
 bay sheet write new.sheet --straps 1
 bay trace board.img maker.stream --vcd new.vcd >new.words
-cp board.img new.img
 
 jobs="run_over run_fresh sheet trace"
 
@@ -50,7 +49,6 @@ state() {
     fi
 }
 
-# The states of a job's targets, and what they are before and after.
 states() {
     case $1 in
     run_*) echo "$(state answers new.answers) $(state save.img new.img)" ;;
@@ -59,20 +57,17 @@ states() {
     esac
 }
 
-all_old() {
-    case $1 in
-    run_over) echo "old old" ;;
-    run_fresh) echo "none none" ;;
-    *) echo old ;;
+# all JOB old|new: the states of all its targets.
+all() {
+    case $1,$2 in
+    run_over,* | run_fresh,new) echo "$2 $2" ;;
+    run_fresh,old) echo "none none" ;;
+    *) echo "$2" ;;
     esac
 }
 
-all_new() {
-    case $1 in
-    run_*) echo "new new" ;;
-    *) echo new ;;
-    esac
-}
+# are JOB STATES [WHEN]: its targets are so.
+are() { [ "$(states "$1")" = "$2" ] || wrong "$1: $(states "$1") and not $2 ${3:-}"; }
 
 # plan FAULTS WORDS...: bay with these faults.
 plan() {
@@ -81,17 +76,18 @@ plan() {
     env FAULTY="$faults" "$BAY_BUILD/bay_faulty" "$@"
 }
 
-# with JOB FAULTS: the job from its beginning with these faults; its status is in got.
+# with STATUS JOB FAULTS: the job from its beginning with these faults. A status of - is not compared; it is in got.
 with() {
-    before "$1"
-    save "$1" plan "$2" >out 2>err
+    before "$2"
+    save "$2" plan "$3" >out 2>err
     got=$?
+    [ "$1" = - ] || [ "$got" -eq "$1" ] || wrong "$2, $3: status $got and not $1"
 }
 
 # again JOB: an ordinary save of the same targets, after which all is new and nothing stands beside.
 again() {
     save "$1" bay >out 2>err || wrong "$1: the save after it failed: $(cat err)"
-    [ "$(states "$1")" = "$(all_new "$1")" ] || wrong "$1: after the save after it: $(states "$1")"
+    are "$1" "$(all "$1" new)" "by the save after it"
     tidy
 }
 
@@ -106,18 +102,12 @@ count_calls() {
 case_ "killed at each file operation: every target is old or new and whole, and the next save clears up"
 for job in $jobs; do
     count_calls "$job"
-    n=1
-    while [ "$n" -le "$calls" ]; do
-        with "$job" "kill file $n"
-        [ $got -eq 137 ] || wrong "$job, call $n: status $got and not killed"
-        for one in $(states "$job"); do
-            case $job,$one in
-            *,old | *,new | run_fresh,none) ;;
-            *) wrong "$job, killed at call $n: $(states "$job")" ;;
-            esac
-        done
+    for n in $(seq "$calls"); do
+        with 137 "$job" "kill file $n"
+        case $job,$(states "$job") in
+        *torn* | run_over,*none* | sheet,none | trace,none) wrong "$job, killed at call $n: $(states "$job")" ;;
+        esac
         again "$job"
-        n=$((n + 1))
     done
 done
 
@@ -128,12 +118,11 @@ for job in $jobs; do
     count_calls "$job"
     for error in 5 28; do
         kept=0
-        n=1
-        while [ "$n" -le "$calls" ]; do
-            with "$job" "$error file $n"
-            want=$(all_old "$job")
+        for n in $(seq "$calls"); do
+            with - "$job" "$error file $n"
+            want=$(all "$job" old)
             if [ $got -eq 0 ]; then
-                want=$(all_new "$job")
+                want=$(all "$job" new)
                 kept=$((kept + 1))
             else
                 { [ $got -eq 73 ] || [ $got -eq 74 ]; } || wrong "$job, call $n: status $got"
@@ -142,15 +131,14 @@ for job in $jobs; do
                 says err "  do        "
                 if grep -q "a folder could not be brought to disk" err; then
                     says err "but a power cut may bring the old back"
-                    want=$(all_new "$job")
+                    want=$(all "$job" new)
                 else
                     says err "nothing was changed"
                 fi
                 tidy
             fi
-            [ "$(states "$job")" = "$want" ] || wrong "$job, call $n fails: $(states "$job") and not $want, status $got"
+            are "$job" "$want" "where call $n fails, status $got"
             again "$job"
-            n=$((n + 1))
         done
         [ $kept -le 3 ] || wrong "$job: $kept failures were passed over"
     done
@@ -159,18 +147,10 @@ done
 case_ "SIGTERM behind each file operation: all old or all new, and nothing is left beside"
 for job in $jobs; do
     count_calls "$job"
-    with "$job" "term open 1"
-    [ $got -eq 143 ] || wrong "$job, the first open: status $got"
-    [ "$(states "$job")" = "$(all_old "$job")" ] || wrong "$job, the first open: $(states "$job")"
-    tidy
-    n=1
-    while [ "$n" -le "$calls" ]; do
-        with "$job" "term file $n"
-        [ $got -eq 143 ] || wrong "$job, call $n: status $got and not ended by the signal"
-        now=$(states "$job")
-        [ "$now" = "$(all_old "$job")" ] || [ "$now" = "$(all_new "$job")" ] || wrong "$job, SIGTERM at call $n: $now"
+    for call in open:1 $(seq -f file:%g "$calls"); do
+        with 143 "$job" "term ${call%:*} ${call#*:}"
+        [ "$(states "$job")" = "$(all "$job" old)" ] || are "$job" "$(all "$job" new)" "at $call"
         tidy
-        n=$((n + 1))
     done
 done
 
@@ -178,19 +158,13 @@ case_ "SIGTERM while the server starts leaves nothing beside its image"
 sweep
 env FAULTY_COUNT="$work/count" "$BAY_BUILD/bay_faulty" serve --port 0 board.img --seconds 1 >log 2>err
 calls=$(cat count)
-n=1
-while [ "$n" -lt "$calls" ]; do
+for call in open:1 $(seq -f file:%g $((calls - 1))); do
     sweep
-    plan "term file $n" serve --port 0 board.img --seconds 1 >log 2>err
+    plan "term ${call%:*} ${call#*:}" serve --port 0 board.img --seconds 1 >log 2>err
     got=$?
-    { [ $got -eq 143 ] || { [ $got -eq 0 ] && grep -q '^listening' log; }; } || wrong "call $n: status $got, $(cat err)"
+    { [ $got -eq 143 ] || { [ $got -eq 0 ] && grep -q '^listening' log; }; } || wrong "$call: status $got, $(cat err)"
     tidy
-    n=$((n + 1))
 done
-sweep
-plan "term open 1" serve --port 0 board.img --seconds 1 >log 2>err
-[ $? -eq 143 ] || wrong "the first open: it did not end by the signal"
-tidy
 same board.img new.img
 
 case_ "SIGTERM in the bays of a rack: each file is old or new, and nothing is left beside"
@@ -199,17 +173,15 @@ for bay in 01 02; do
     cp board.img tonight/bay$bay.img
     cp maker.stream tonight/bay$bay.stream
 done
-for call in "open 1" "file 1" "file 2" "file 3" "file 4" "file 5" "file 6" "file 7" "file 8" "file 9" "file 10" \
-    "file 11"; do
+for call in open:1 $(seq -f file:%g 11); do
     sweep
     cp old after/bay01.img
     rm -f after/bay02.img
-    plan "term $call" rack tonight --save after >out 2>err
+    plan "term ${call%:*} ${call#*:}" rack tonight --save after >out 2>err
     got=$?
     { [ $got -eq 143 ] || [ $got -eq 70 ]; } || wrong "$call: status $got"
     case $(state after/bay01.img new.img),$(state after/bay02.img new.img) in
-    old,none | old,new | new,none | new,new) ;;
-    *) wrong "$call: $(state after/bay01.img new.img), $(state after/bay02.img new.img)" ;;
+    none,* | *torn*) wrong "$call: $(state after/bay01.img new.img), $(state after/bay02.img new.img)" ;;
     esac
     tidy
 done
@@ -228,14 +200,12 @@ inode=$(stat -c %i answers)
 save run_over plan "5 rename 2" >out 2>err
 [ $? -eq 74 ] || wrong "the status is not 74"
 says err "save.img could not be put in place; nothing was changed"
-says err "  found     Input/output error"
-[ "$(states run_over)" = "old old" ] || wrong "$(states run_over)"
+are run_over "old old"
 [ "$(stat -c %i,%a answers)" = "$inode,640" ] || wrong "it is not the file that it was"
 tidy
-with run_fresh "5 rename 2"
-[ $got -eq 74 ] || wrong "two new files: status $got"
+with 74 run_fresh "5 rename 2"
 says err "nothing was changed"
-[ "$(states run_fresh)" = "none none" ] || wrong "two new files: $(states run_fresh)"
+are run_fresh "none none"
 tidy
 
 case_ "the same on a disk without hard links, where a copy is kept"
@@ -244,51 +214,44 @@ chmod 640 answers
 save run_over plan "1 link 1, 5 rename 2" >out 2>err
 [ $? -eq 74 ] || wrong "the status is not 74"
 says err "nothing was changed"
-[ "$(states run_over)" = "old old" ] || wrong "$(states run_over)"
+are run_over "old old"
 [ "$(stat -c %a answers)" = 640 ] || wrong "the mode has changed"
 tidy
-with run_over "1 link 1"
-[ $got -eq 0 ] || wrong "status $got"
-[ "$(states run_over)" = "new new" ] || wrong "$(states run_over)"
+with 0 run_over "1 link 1"
+are run_over "new new"
 tidy
 for fault in "28 open 5" "28 write 3" "28 fchmod 3" "28 fsync 3"; do
-    with run_over "1 link 1, $fault"
-    [ $got -eq 74 ] || wrong "$fault: status $got"
+    with 74 run_over "1 link 1, $fault"
     says err "nothing was changed"
     says err "  found     No space left on device"
-    [ "$(states run_over)" = "old old" ] || wrong "$fault: $(states run_over)"
+    are run_over "old old"
     tidy
 done
-with run_over "1 link 1, term write 3"
-[ $got -eq 143 ] || wrong "status $got"
-[ "$(states run_over)" = "old old" ] || wrong "$(states run_over)"
+with 143 run_over "1 link 1, term write 3"
+are run_over "old old"
 tidy
 
 case_ "where the first cannot be put back either, it is said which is new and which is old"
-with run_over "5 rename 2+"
-[ $got -eq 74 ] || wrong "status $got"
+with 74 run_over "5 rename 2+"
 says err "  found     Input/output error, then Input/output error; new: answers (the old one is .bay-"
 says err "; as before: save.img"
 grep -q "nothing was changed" err && wrong "it says that nothing was changed"
-[ "$(states run_over)" = "new old" ] || wrong "$(states run_over)"
+are run_over "new old"
 same "$(find . -name '.bay-*')" old
 again run_over
-with run_fresh "5 rename 2, 30 unlink 5"
-[ $got -eq 74 ] || wrong "status $got"
+with 74 run_fresh "5 rename 2, 30 unlink 5"
 says err "then Read-only file system; new: answers; as before: save.img"
-[ "$(states run_fresh)" = "new none" ] || wrong "$(states run_fresh)"
+are run_fresh "new none"
 tidy
 
 case_ "no target is missing while it is put back"
-with run_over "5 rename 2, kill rename 3"
-[ $got -eq 137 ] || wrong "status $got and not killed"
-[ "$(states run_over)" = "new old" ] || wrong "$(states run_over)"
+with 137 run_over "5 rename 2, kill rename 3"
+are run_over "new old"
 again run_over
 
 case_ "two bays at once: the file is one of the two, whole"
 tr Z Y <board.img >other.img
-i=0
-while [ $i -lt 10 ]; do
+for try in $(seq 10); do
     sweep
     cp old both.img
     "$BAY_BUILD/bay" run board.img maker.stream --save both.img >out 2>err &
@@ -303,19 +266,14 @@ while [ $i -lt 10 ]; do
     0,0) cmp -s both.img board.img || same both.img other.img ;;
     0,73) same both.img board.img ;;
     73,0) same both.img other.img ;;
-    *) wrong "the statuses are $one and $two" ;;
+    *) wrong "try $try: the statuses are $one and $two" ;;
     esac
     tidy
-    i=$((i + 1))
 done
 
-# slow PROGRAM...: a bay that has written its waveform beside both.img and waits for a reader of its words, on the
-# standard input 9; its process is in running.
-i=0
-while [ $i -lt 3000 ]; do
-    echo "read FBC0000"
-    i=$((i + 1))
-done | lay >long.stream
+# slow PROGRAM...: a bay that has written its waveform beside both.img and waits until its words are read from the file
+# 9; its process is in running.
+seq 3000 | sed 's/.*/read FBC0000/' | lay >long.stream
 mkfifo words
 slow() {
     sweep
@@ -331,6 +289,14 @@ slow() {
     sleep 0.1
 }
 
+# finishes STATUS: its words are read, and it ends so.
+finishes() {
+    cat <&9 >/dev/null
+    ended $running
+    exec 9<&-
+    [ "$got" -eq "$1" ] || wrong "the slow bay: status $got and not $1, $(cat slow.err)"
+}
+
 case_ "a file that another bay is writing is left alone"
 slow "$BAY_BUILD/bay"
 gives 73 bay run board.img maker.stream --save both.img
@@ -338,59 +304,47 @@ explains
 says err "another bay is writing this file"
 [ "$(state both.img new.img)" = old ] || wrong "it was written all the same"
 gives 73 bay serve --port 0 both.img --seconds 1
-cat <&9 >/dev/null
-ended $running
-exec 9<&-
-[ "$got" -eq 0 ] || wrong "the other bay: status $got, $(cat slow.err)"
+finishes 0
 grep -qF enddefinitions both.img || wrong "the other bay's file is not there"
 tidy
 
 case_ "on a disk that knows no locks a save goes on; of two at once one finds its draft gone, and the file is whole"
-with run_over "95 flock 1+"
-[ $got -eq 0 ] || wrong "status $got: $(cat err)"
-[ "$(states run_over)" = "new new" ] || wrong "$(states run_over)"
-with run_over "95 flock 1+, kill rename 2"
+with 0 run_over "95 flock 1+"
+are run_over "new new"
+with 137 run_over "95 flock 1+, kill rename 2"
 again run_over
 slow env FAULTY="95 flock 1+" "$BAY_BUILD/bay_faulty"
 gives 0 plan "95 flock 1+" run board.img maker.stream --save both.img
-cat <&9 >/dev/null
-ended $running
-exec 9<&-
-[ "$got" -eq 73 ] || wrong "the slow bay: status $got, $(cat slow.err)"
+finishes 73
 says slow.err "another bay is writing this file"
 same both.img board.img
 tidy
-
 slow env FAULTY="95 flock 1+" "$BAY_BUILD/bay_faulty"
 plan "95 flock 1+, kill rename 1" run board.img maker.stream --save both.img >out 2>err
-cat <&9 >/dev/null
-ended $running
-exec 9<&-
-[ "$got" -eq 73 ] || wrong "the slow bay: status $got, $(cat slow.err)"
+finishes 73
 same "$(find . -name '.bay-*.draft')" board.img # the other's, which is not the slow bay's to remove
 [ "$(state both.img new.img)" = old ] || wrong "a draft that was not its own was put in place"
 gives 0 bay run board.img maker.stream --save both.img
 tidy
 
 case_ "more signals while the first is cleaned up after"
-with run_over "term write 2, term unlink 5"
-[ $got -eq 143 ] || wrong "status $got"
-[ "$(states run_over)" = "old old" ] || wrong "$(states run_over)"
+with 143 run_over "term write 2, term unlink 5"
+are run_over "old old"
 tidy
 for try in 1 2 3; do
     slow "$BAY_BUILD/bay"
-    while kill -TERM $running 2>/dev/null; do
-        :
+    for shot in $(seq 200); do
+        kill -TERM $running 2>/dev/null || break
     done
     ended $running
     exec 9<&-
-    [ "$got" -eq 143 ] || wrong "try $try: status $got"
+    [ "$got" -eq 143 ] || wrong "try $try: status $got after $shot signals"
     [ "$(state both.img new.vcd)" = old ] || wrong "try $try: the file is not the old one"
     tidy
 done
 
 case_ "a link under a draft's name is not written through"
-with sheet "kill rename 1"
+with 137 sheet "kill rename 1"
 draft=$(find . -name '.bay-*.draft')
 rm "$draft"
 echo precious >precious
@@ -410,9 +364,8 @@ for pair in answers,./answers answers,link "answers,$work/answers" none,./none n
     explains
     says err "--answers and --save name the same file"
     says err "  found     ${pair%,*} and ${pair#*,}"
-    [ "$(states run_over)" = "old old" ] || wrong "$pair: $(states run_over)"
+    are run_over "old old"
 done
-before run_over
 gives 64 bay run board.img maker.stream --save out
 says err "--save and the standard output name the same file"
 gives 64 bay trace board.img maker.stream --vcd ./out
@@ -431,7 +384,7 @@ case_ "two hard links are two files, a link to nowhere stays a link, and an outp
 before run_over
 ln -f answers save.img
 gives 0 save run_over bay
-[ "$(states run_over)" = "new new" ] || wrong "$(states run_over)"
+are run_over "new new"
 gives 0 bay run board.img maker.stream --answers dangling --save ./board.img
 same nowhere new.answers
 [ -L dangling ] || wrong "the link is no link any more"
