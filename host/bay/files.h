@@ -29,11 +29,28 @@ struct output {
     bool report;
 };
 
+/* An output as the command line names it, as "--save". A null path is left out. */
+struct named {
+    const char *name;
+    const char *path;
+};
+
+/* Gives 0 where no two of the outputs, and none of them and the standard output, lead to the same file; else a status
+ * after a message. */
+int outputs_apart(const struct named *outputs, size_t count);
+
 /* Whether a file could be made there, before work is done that would be lost. Gives 0 or a status after a message. */
 int can_deliver(const char *path);
 
 /* Leaves all outputs or none: every file is written beside its target and brought to disk, then the standard output is
- * written, and only then are the targets replaced. A signal in between removes what stands beside. At most four. */
+ * written, and only then are the targets replaced. Where one cannot be, those before it are put back. A signal in
+ * between removes what stands beside. At most four files. Gives 0, or a status after a message. */
 int deliver(const struct output *outputs, size_t count);
+
+/* Writes all of it. Gives 0 or the errno. */
+int write_all(int file, const void *at, size_t length);
+
+/* Says that a file could not be written whole, and gives the status. */
+int not_written(const char *path, int error);
 
 #endif

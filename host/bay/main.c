@@ -4,6 +4,7 @@
 #include "help.h"
 #include "trouble.h"
 
+#include <errno.h>
 #include <fcntl.h>
 #include <signal.h>
 #include <stdbool.h>
@@ -71,11 +72,31 @@ static void hold_standard_places(void)
     }
 }
 
+/* A file that may not grow further is then an error of the write, which is told and cleaned up after. */
+static int ignore_file_size_signal(void)
+{
+    struct sigaction ignored;
+    memset(&ignored, 0, sizeof ignored);
+    ignored.sa_handler = SIG_IGN;
+    (void)sigemptyset(&ignored.sa_mask);
+    if (sigaction(SIGXFSZ, &ignored, NULL) == 0) {
+        return 0;
+    }
+    return trouble(TROUBLE_SYSTEM, "a signal cannot be ignored\n"
+                                   "  expected  a system that lets SIGXFSZ be ignored\n"
+                                   "  found     %s\n"
+                                   "  do        look at what the system forbids this program",
+                   strerror(errno));
+}
+
 int main(int count, char **words)
 {
     hold_standard_places();
-    /* a file that may not grow further is then an error of the write, which is told and cleaned up after */
-    if (signal(SIGXFSZ, SIG_IGN) == SIG_ERR || count < 2) {
+    int status = ignore_file_size_signal();
+    if (status != 0) {
+        return status;
+    }
+    if (count < 2) {
         return no_command("nothing");
     }
     bool help_word = strcmp(words[1], "help") == 0;

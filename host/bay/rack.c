@@ -79,6 +79,28 @@ static int save_bay(const struct rack *rack, unsigned number, const struct load 
     return deliver(&(struct output){ .path = name.text, .at = load->after, .length = load->before.length }, 1);
 }
 
+static bool is_empty(const struct rack *rack, unsigned number)
+{
+    return !file_exists(file_name(rack->folder, number, "img").text) &&
+           !file_exists(file_name(rack->folder, number, "stream").text);
+}
+
+/* Gives 0 where each bay has a file of its own to be saved to. */
+static int check_saves(const struct rack *rack)
+{
+    static struct name names[BAYS];
+    static char bays[BAYS][8];
+    struct named outputs[BAYS] = { { NULL, NULL } };
+    for (unsigned i = 0; i < BAYS && rack->save != NULL; i++) {
+        int length = snprintf(bays[i], sizeof bays[i], "bay %u", i + 1);
+        if (length > 0 && !is_empty(rack, i + 1)) {
+            names[i] = file_name(rack->save, i + 1, "img");
+            outputs[i] = (struct named){ bays[i], names[i].text };
+        }
+    }
+    return outputs_apart(outputs, BAYS);
+}
+
 /* One bay, from its files to its outcome. */
 static void run_bay(const struct rack *rack, unsigned number, struct outcome *out)
 {
@@ -87,7 +109,7 @@ static void run_bay(const struct rack *rack, unsigned number, struct outcome *ou
     struct name sheet = file_name(rack->folder, number, "sheet");
     struct load load = { .image = image.text, .stream = stream.text };
     struct settings_options from = { .sheet = file_exists(sheet.text) ? sheet.text : NULL };
-    out->empty = !file_exists(image.text) && !file_exists(stream.text);
+    out->empty = is_empty(rack, number);
     if (out->empty) {
         return;
     }
@@ -103,8 +125,9 @@ static void run_bay(const struct rack *rack, unsigned number, struct outcome *ou
     load_free(&load);
 }
 
-/* The life of a bay's process, which has the writing end of the pipe. */
-static _Noreturn void bay_process(const struct rack *rack, struct bay *bay)
+/* The life of a bay's process, which has the writing end of the pipe. It begins with the signals held back, so that
+ * none is lost on the rack's handler. */
+static _Noreturn void bay_process(const struct rack *rack, struct bay *bay, const struct held *held)
 {
     struct outcome *outcome = &bay->outcome;
     char speaker[32];
@@ -112,6 +135,7 @@ static _Noreturn void bay_process(const struct rack *rack, struct bay *bay)
     trouble_speaker(length > 0 ? speaker : "bay rack");
     trouble_into(outcome->words, sizeof outcome->words);
     signals_give_back(&signals);
+    signals_let(held);
     (void)alarm(rack->seconds);
     run_bay(rack, bay->number, outcome);
     _exit(write(bay->pipe, outcome, sizeof *outcome) == (ssize_t)sizeof *outcome ? 0 : 1);
@@ -132,12 +156,15 @@ static int start_bay(const struct rack *rack, struct bay *bay)
     if (pipe(ends) != 0) {
         return no_process();
     }
+    struct held held;
+    signals_hold(&held);
     bay->process = fork();
     if (bay->process == 0) {
         (void)close(ends[0]);
         bay->pipe = ends[1];
-        bay_process(rack, bay);
+        bay_process(rack, bay, &held);
     }
+    signals_let(&held);
     (void)close(ends[1]);
     bay->pipe = ends[0];
     return bay->process < 0 ? no_process() : 0;
@@ -146,10 +173,15 @@ static int start_bay(const struct rack *rack, struct bay *bay)
 /* Takes what the bay's process left and sees it off. */
 static void collect(struct bay *bay)
 {
-    ssize_t got = read(bay->pipe, &bay->outcome, sizeof bay->outcome);
+    ssize_t got = 0;
     int how = 0;
+    do {
+        got = read(bay->pipe, &bay->outcome, sizeof bay->outcome);
+    } while (got < 0 && errno == EINTR);
     (void)close(bay->pipe);
-    (void)waitpid(bay->process, &how, 0);
+    while (waitpid(bay->process, &how, 0) < 0 && errno == EINTR) {
+        /* another signal; the process is waited for all the same, so that its files are whole when the rack ends */
+    }
     bay->done = true;
     if (got == (ssize_t)sizeof bay->outcome) {
         return;
@@ -277,7 +309,7 @@ static int run_rack(const struct rack *rack)
     static struct bay bays[BAYS];
     int status = 0;
     signals_take(&signals, on_signal, 0);
-    for (unsigned i = 0; i < BAYS && status == 0; i++) {
+    for (unsigned i = 0; i < BAYS && status == 0 && ended_by == 0; i++) {
         bays[i].number = i + 1;
         bays[i].pipe = -1;
         status = start_bay(rack, &bays[i]);
@@ -288,7 +320,7 @@ static int run_rack(const struct rack *rack)
     end_bays(bays);
     signals_give_back(&signals);
     if (ended_by != 0) {
-        (void)raise(ended_by);
+        signals_end_by(ended_by);
     }
     if (status != 0) {
         return status;
@@ -322,6 +354,9 @@ int command_rack(int count, char **words)
     }
     if (status == 0 && rack.save != NULL) {
         status = check_folder(rack.save);
+    }
+    if (status == 0) {
+        status = check_saves(&rack);
     }
     if (status == 0) {
         char usual[PATH_MAX];

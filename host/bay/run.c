@@ -3,10 +3,7 @@
 #include "load.h"
 #include "options.h"
 #include "text.h"
-#include "trouble.h"
 #include "words.h"
-
-#include <string.h>
 
 /* Where the results go; null where they are not wanted. */
 struct results {
@@ -17,15 +14,9 @@ struct results {
 static int check_results(const struct results *to)
 {
     const char *const both[] = { to->answers, to->save };
+    const struct named outputs[] = { { "--answers", to->answers }, { "--save", to->save } };
     int status = one_standard("output", both, 2);
-    if (status == 0 && to->answers != NULL && to->save != NULL && strcmp(to->answers, to->save) == 0) {
-        status = trouble(TROUBLE_USAGE, "--answers and --save name the same file\n"
-                                        "  expected  two files\n"
-                                        "  found     %s for both\n"
-                                        "  do        give one of them another name",
-                         to->save);
-    }
-    return status;
+    return status == 0 ? outputs_apart(outputs, 2) : status;
 }
 
 static int run_and_tell(struct load *load, const struct results *to)

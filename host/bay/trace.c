@@ -34,9 +34,9 @@ struct happened {
 
 static void tell_pins(struct tracer *tracer, const struct happened *now)
 {
-    struct brief pins = brief_pins(now->seen.sample, now->clock == 0 ? NULL : &tracer->last);
-    if (pins.text[0] != '\0') {
-        text_add(&tracer->text, "clock %6zu  pins   %s\n", now->clock, pins.text);
+    struct brief changed = brief_pins(now->seen.sample, now->clock == 0 ? NULL : &tracer->last);
+    if (changed.text[0] != '\0') {
+        text_add(&tracer->text, "clock %6zu  pins   %s\n", now->clock, changed.text);
     }
     tracer->last = now->seen.sample;
 }
@@ -220,6 +220,9 @@ int command_trace(int count, char **words)
     const struct place places[] = { { "IMAGE", &load.image }, { "STREAM", &load.stream } };
     const struct line line = { options, sizeof options / sizeof options[0], places, 2 };
     int status = options_take(&line, count, words);
+    if (status == 0) {
+        status = outputs_apart(&(struct named){ "--vcd", vcd_path }, 1);
+    }
     if (status == 0) {
         status = load_begin(&load, &from);
     }

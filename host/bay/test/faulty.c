@@ -1,5 +1,5 @@
 /* bay with faults: the same program, linked so that its calls of the system pass through here. FAULTY says which of them
- * goes wrong, as "ACT CALL N":
+ * goes wrong, as "ACT CALL N", or several such with a comma between them:
  *
  *     ACT    kill     the program ends there as in a power cut, before the call
  *            term     SIGTERM comes, right after the call
@@ -16,12 +16,14 @@
 #include <stdio.h>
 #include <stdlib.h>
 #include <string.h>
+#include <sys/file.h>
 #include <sys/socket.h>
 #include <sys/stat.h>
 #include <unistd.h>
 
+enum { PLANS = 4 };
+
 struct plan {
-    bool read;
     char act[16];
     char call[16];
     unsigned long from;
@@ -29,7 +31,8 @@ struct plan {
     unsigned long met;
 };
 
-static struct plan plan;
+static struct plan plans[PLANS];
+static bool plans_read;
 static unsigned long file_calls;
 
 static void tell_count(void)
@@ -42,53 +45,65 @@ static void tell_count(void)
     }
 }
 
-static void read_plan(void)
+static void read_plans(void)
 {
     const char *words = getenv("FAULTY");
-    char number[16] = "";
-    plan.read = true;
+    plans_read = true;
     (void)atexit(tell_count);
-    if (words != NULL && sscanf(words, "%15s %15s %15s", plan.act, plan.call, number) != 3) {
-        (void)fprintf(stderr, "faulty: FAULTY is no ACT CALL N: %s\n", words);
-        _exit(99);
+    for (size_t i = 0; i < PLANS && words != NULL; i++) {
+        char number[16] = "";
+        if (sscanf(words, "%15s %15s %15[0-9+]", plans[i].act, plans[i].call, number) != 3) {
+            (void)fprintf(stderr, "faulty: FAULTY is no ACT CALL N: %s\n", words);
+            _exit(99);
+        }
+        plans[i].from = strtoul(number, NULL, 10);
+        plans[i].onwards = strchr(number, '+') != NULL;
+        words = strchr(words, ',');
+        words = words == NULL ? NULL : words + 1;
     }
-    plan.from = strtoul(number, NULL, 10);
-    plan.onwards = strchr(number, '+') != NULL;
 }
 
-/* Whether this call is the one that goes wrong. */
-static bool is_met(const char *call, bool file)
+static bool is_due(struct plan *plan, const char *call, bool file)
 {
-    if (!plan.read) {
-        read_plan();
+    if (plan->act[0] == '\0' || (strcmp(plan->call, call) != 0 && !(file && strcmp(plan->call, "file") == 0))) {
+        return false;
+    }
+    plan->met++;
+    return plan->met == plan->from || (plan->met > plan->from && plan->onwards);
+}
+
+/* What goes wrong with this call: null if nothing does. */
+static const char *met(const char *call, bool file)
+{
+    const char *act = NULL;
+    if (!plans_read) {
+        read_plans();
     }
     file_calls += file ? 1 : 0;
-    if (plan.act[0] == '\0' || (strcmp(plan.call, call) != 0 && !(file && strcmp(plan.call, "file") == 0))) {
-        return false;
+    for (size_t i = 0; i < PLANS; i++) {
+        if (is_due(&plans[i], call, file)) {
+            act = plans[i].act;
+        }
     }
-    plan.met++;
-    if (plan.met < plan.from || (plan.met > plan.from && !plan.onwards)) {
-        return false;
-    }
-    if (strcmp(plan.act, "kill") == 0) {
+    if (act != NULL && strcmp(act, "kill") == 0) {
         (void)raise(SIGKILL);
     }
-    return true;
+    return act;
 }
 
-static bool fails(bool met)
+static bool fails(const char *act)
 {
-    int error = met ? atoi(plan.act) : 0;
+    long error = act == NULL ? 0 : strtol(act, NULL, 10);
     if (error > 0) {
-        errno = error;
+        errno = (int)error;
     }
     return error > 0;
 }
 
-static void after(bool met)
+static void after(const char *act)
 {
     int error = errno;
-    if (met && strcmp(plan.act, "term") == 0) {
+    if (act != NULL && strcmp(act, "term") == 0) {
         (void)raise(SIGTERM);
     }
     errno = error;
@@ -99,12 +114,12 @@ static void after(bool met)
     type __wrap_##name parameters;                         \
     type __wrap_##name parameters                          \
     {                                                      \
-        bool met = is_met(#name, file);                    \
-        if (fails(met)) {                                  \
+        const char *act = met(#name, file);                \
+        if (fails(act)) {                                  \
             return -1;                                     \
         }                                                  \
         type result = __real_##name arguments;             \
-        after(met);                                        \
+        after(act);                                        \
         return result;                                     \
     }
 
@@ -117,28 +132,17 @@ WRAPPED(rename, true, (const char *from, const char *to), (from, to), int)
 WRAPPED(unlink, true, (const char *path), (path), int)
 WRAPPED(accept, false, (int place, struct sockaddr *address, socklen_t *length), (place, address, length), int)
 WRAPPED(sigaction, false, (int number, const struct sigaction *now, struct sigaction *old), (number, now, old), int)
+WRAPPED(flock, false, (int place, int what), (place, what), int)
 
-typedef void handler(int);
-handler *__real_signal(int number, handler *now);
-handler *__wrap_signal(int number, handler *now);
-handler *__wrap_signal(int number, handler *now)
-{
-    bool met = is_met("signal", false);
-    if (fails(met)) {
-        return SIG_ERR;
-    }
-    handler *old = __real_signal(number, now);
-    after(met);
-    return old;
-}
-
+/* NOLINTBEGIN(bugprone-reserved-identifier,cert-dcl37-c,cert-dcl51-cpp): the names that the linker's --wrap asks for */
 int __real_open(const char *path, int flags, ...);
 int __wrap_open(const char *path, int flags, ...);
+/* NOLINTEND(bugprone-reserved-identifier,cert-dcl37-c,cert-dcl51-cpp) */
 int __wrap_open(const char *path, int flags, ...)
 {
-    bool met = (flags & O_CREAT) != 0 && is_met("open", true);
+    const char *act = (flags & O_CREAT) != 0 ? met("open", true) : NULL;
     mode_t mode = 0;
-    if (fails(met)) {
+    if (fails(act)) {
         return -1;
     }
     if ((flags & O_CREAT) != 0) {
@@ -148,6 +152,6 @@ int __wrap_open(const char *path, int flags, ...)
         va_end(rest);
     }
     int place = __real_open(path, flags, mode);
-    after(met);
+    after(act);
     return place;
 }

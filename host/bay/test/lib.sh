@@ -10,7 +10,7 @@ esac
 PATH=$PATH:/usr/sbin:/sbin
 LC_ALL=C
 export BAY_BUILD PATH LC_ALL
-for program in bay lay poke; do
+for program in bay bay_faulty lay poke; do
     if [ ! -x "$BAY_BUILD/$program" ]; then
         echo "${0##*/}: expected $BAY_BUILD/$program, which make host builds, and found none"
         echo "0 passed, 1 failed"
@@ -27,6 +27,7 @@ failed=0
 name=
 
 bay() { "$BAY_BUILD/bay" "$@"; }
+faulty() { "$BAY_BUILD/bay_faulty" "$@"; }
 lay() { "$BAY_BUILD/lay"; }
 poke() { "$BAY_BUILD/poke" "$@"; }
 
