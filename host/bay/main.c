@@ -1,4 +1,5 @@
-/* bay: what a fitter runs at night. Everything about the part is asked of the proved library. */
+/* bay: what a fitter runs at night. It knows the bus and has words for what it sees; what the part does is asked of the
+ * proved library. */
 #include "commands.h"
 #include "files.h"
 #include "help.h"
