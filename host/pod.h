@@ -1,4 +1,5 @@
 /* The pod: a proved model of the M50FW080 flash part on its Firmware Hub bus, as a C or C++ program calls it.
+ * For x86-64 with the System V ABI, in C11 or C++11 and later.
  *
  * A device is a plain record that the caller keeps and hands in; an image is the part's memory, which the caller lends.
  * The library holds nothing of its own between calls, so two devices on two images never meet, in one thread or many.
@@ -10,7 +11,7 @@
  * after the stated clocks, which were done.
  *
  * What the caller promises, since nothing here can test it: a pointer and the length beside it name memory that is
- * there for the whole call, and no two buffers of one call overlap each other or the device. Where a length is 0 the
+ * there for the whole call, so does the device of pod_clock, and no two of them overlap. Where a length is 0 the
  * pointer is not looked at and may be null.
  *
  *     struct pod_powered up = pod_power_up(0, 10, 3906, 30);
@@ -20,7 +21,7 @@
 #ifndef POD_H
 #define POD_H
 
-#if !defined __x86_64__ || defined __ILP32__ || defined _WIN32
+#if !defined __x86_64__ || defined __ILP32__ || defined _WIN32 || defined __CYGWIN__
 #error "the pod library is for x86-64 with the System V ABI (64-bit pointers)"
 #endif
 
@@ -71,7 +72,7 @@ enum {
     POD_REFUSED_VOLTAGE = 7, /* a sample has voltage class 3 */
     POD_REFUSED_SHEET = 8,   /* the bytes are not laid out as a bay sheet */
     POD_REFUSED_SAMPLE = 9,  /* the sample to settle with has frame line, RP or INIT low */
-    POD_STILL_BUSY = 10      /* settle did as many samples as it might, and status bit 7 is still 0 */
+    POD_STILL_BUSY = 10      /* settle did all `limit` samples, and status bit 7 is still 0 */
 };
 
 /* A sample: what the host holds on the pins for one clock. In a stream it is two bytes, the lower one first. */
@@ -94,7 +95,7 @@ enum {
     POD_SAMPLE_IDLE = 0x03FF        /* lines and pins high, voltage normal, inputs low */
 };
 
-/* Voltage classes; 3 is none. */
+/* Voltage classes; 3 is refused (POD_REFUSED_VOLTAGE). */
 enum { POD_VOLTAGE_LOCKOUT = 0, POD_VOLTAGE_NORMAL = 1, POD_VOLTAGE_TWELVE = 2 };
 
 /* An answer byte: 0 where the part does not drive the lines, else POD_ANSWER_DRIVEN and the nibble that it drives. */
@@ -102,17 +103,18 @@ enum { POD_ANSWER_LINES = 0x0F, POD_ANSWER_DRIVEN = 0x10 };
 
 /* The status register; bit 0 is always 0. */
 enum {
-    POD_STATUS_PROTECTED = 0x02,
-    POD_STATUS_PROGRAM_SUSPENDED = 0x04,
-    POD_STATUS_VOLTAGE = 0x08,
-    POD_STATUS_PROGRAM = 0x10,
-    POD_STATUS_ERASE = 0x20,
-    POD_STATUS_ERASE_SUSPENDED = 0x40,
-    POD_STATUS_READY = 0x80,
-    POD_STATUS_ERRORS = 0x3A /* those that stand until they are cleared */
+    POD_STATUS_PROTECTED = 0x02,         /* error: a protected block was to be changed */
+    POD_STATUS_PROGRAM_SUSPENDED = 0x04, /* a program is suspended */
+    POD_STATUS_VOLTAGE = 0x08,           /* error: too low a voltage for a program or erase */
+    POD_STATUS_PROGRAM = 0x10,           /* error of a program; with the next one, an erase was not confirmed */
+    POD_STATUS_ERASE = 0x20,             /* error of an erase */
+    POD_STATUS_ERASE_SUSPENDED = 0x40,   /* an erase is suspended */
+    POD_STATUS_READY = 0x80,             /* nothing runs or pauses */
+    POD_STATUS_ERRORS = 0x3A             /* the errors, which stand until they are cleared or the part is reset */
 };
 
-/* A lock register. */
+/* A lock register: the block is not changed; the register is not changed until a reset; array reads of the block give
+ * 00h. */
 enum { POD_LOCK_WRITE = 1, POD_LOCK_DOWN = 2, POD_LOCK_READ = 4 };
 
 /* What the numbers in a device stand for. A sound device has no others. */
@@ -180,15 +182,15 @@ struct pod_report  { uint32_t number, samples, status, marks; };
 struct pod_sheet   { uint32_t number, straps, program, slice, pause; };
 struct pod_part    { uint32_t from, start, length; };
 
-/* Where the bytes of a pod_part are to be found. */
+/* Where the bytes of a pod_part are to be found; POD_FROM_FRONT shows none, its start and length are 0. */
 enum { POD_FROM_FRONT = 0, POD_FROM_IMAGE = 1, POD_FROM_PAGE = 2 };
 
 /* A device fresh from power-up: straps as a number, times in microseconds. Refusals 3, 4; the device is then the one
  * with straps 0 and times 10, 3906 and 30. */
 struct pod_powered pod_power_up(uint32_t straps, uint32_t program, uint32_t slice, uint32_t pause);
 
-/* The device with other times, which hold for operations accepted from now on; those in progress keep their own.
- * Refusals 1, 4. */
+/* The device with other times (microseconds), which hold for operations accepted from now on; those in progress keep
+ * their own. Refusals 1, 4. */
 struct pod_powered pod_set_times(struct pod_device device, uint32_t program, uint32_t slice, uint32_t pause);
 
 /* One clock: the device after it, and the answer byte. Changes the image where the clock stores or fills. Refusals
@@ -199,8 +201,10 @@ struct pod_stepped pod_step(struct pod_device device, uint8_t *image, size_t ima
  * then as they were (the padding between them is nobody's). */
 struct pod_clocked pod_clock(struct pod_device *device, uint8_t *image, size_t image_len, uint16_t sample);
 
-/* Repeats one idle sample until status bit 7 is 1, at most `limit` times; count is how often. Refusals 1, 2, 7, 9, and
- * 10 where `limit` samples were done and the part is still busy: device, image and count are then as they left them. */
+/* Repeats one idle sample until status bit 7 is 1, at most `limit` times; count is how often, 0 where the part is ready
+ * already. Changes the image as those clocks do; a frame in progress takes the samples as its next clocks. Refusals 1,
+ * 2, 7, 9, and 10 where `limit` samples were done and the part is still busy: device, image and count are then as they
+ * left them. */
 struct pod_settled pod_settle(struct pod_device device, uint8_t *image, size_t image_len,
                               uint16_t sample, uint32_t limit);
 
@@ -211,7 +215,8 @@ struct pod_report  pod_run(uint8_t *image, size_t image_len, const uint8_t *stre
                            uint8_t *answers, size_t answers_len,
                            uint32_t straps, uint32_t program, uint32_t slice, uint32_t pause);
 
-/* A bay sheet's straps and times (microseconds). Refusals 8, 3, 4, tested in this order. */
+/* A bay sheet's straps and times (microseconds). Its bytes are 01 01 00 and the straps, then 02 06 00 and program,
+ * slice and pause, two bytes each with the lower one first. Changes nothing. Refusals 8, 3, 4, tested in this order. */
 struct pod_sheet   pod_sheet_read(const uint8_t *sheet, size_t sheet_len);
 
 /* Writes a bay sheet into the first POD_SHEET_BYTES of a buffer and leaves the rest. Gives the number alone: refusals
@@ -225,7 +230,8 @@ uint32_t           pod_sheet_write(uint8_t *buffer, size_t buffer_len,
 struct pod_part    pod_view(struct pod_device device, const uint8_t *image, size_t image_len,
                             const uint8_t *page, size_t page_len, uint32_t block);
 
-/* The status register, and the spoiled blocks (bit b for block b); 0 for an unsound device. */
+/* The status register (POD_STATUS_..), and the spoiled blocks (bit b for block b). Both change and refuse nothing; an
+ * unsound device has 0, which is also the status of a busy part. */
 uint32_t           pod_status(struct pod_device device);
 uint32_t           pod_marks(struct pod_device device);
 
@@ -269,25 +275,32 @@ POD_ASSERT(offsetof(struct pod_device, frame) == 24, "pod_device.frame");
 POD_ASSERT(offsetof(struct pod_device, controller) == 32, "pod_device.controller");
 
 POD_ASSERT(sizeof(struct pod_powered) == 100, "pod_powered");
+POD_ASSERT(offsetof(struct pod_powered, number) == 0, "pod_powered.number");
 POD_ASSERT(offsetof(struct pod_powered, device) == 4, "pod_powered.device");
 POD_ASSERT(sizeof(struct pod_stepped) == 104, "pod_stepped");
+POD_ASSERT(offsetof(struct pod_stepped, number) == 0, "pod_stepped.number");
 POD_ASSERT(offsetof(struct pod_stepped, answer) == 4, "pod_stepped.answer");
 POD_ASSERT(offsetof(struct pod_stepped, device) == 8, "pod_stepped.device");
 POD_ASSERT(sizeof(struct pod_clocked) == 8, "pod_clocked");
+POD_ASSERT(offsetof(struct pod_clocked, number) == 0, "pod_clocked.number");
 POD_ASSERT(offsetof(struct pod_clocked, answer) == 4, "pod_clocked.answer");
 POD_ASSERT(sizeof(struct pod_settled) == 104, "pod_settled");
+POD_ASSERT(offsetof(struct pod_settled, number) == 0, "pod_settled.number");
 POD_ASSERT(offsetof(struct pod_settled, count) == 4, "pod_settled.count");
 POD_ASSERT(offsetof(struct pod_settled, device) == 8, "pod_settled.device");
 POD_ASSERT(sizeof(struct pod_report) == 16, "pod_report");
+POD_ASSERT(offsetof(struct pod_report, number) == 0, "pod_report.number");
 POD_ASSERT(offsetof(struct pod_report, samples) == 4, "pod_report.samples");
 POD_ASSERT(offsetof(struct pod_report, status) == 8, "pod_report.status");
 POD_ASSERT(offsetof(struct pod_report, marks) == 12, "pod_report.marks");
 POD_ASSERT(sizeof(struct pod_sheet) == 20, "pod_sheet");
+POD_ASSERT(offsetof(struct pod_sheet, number) == 0, "pod_sheet.number");
 POD_ASSERT(offsetof(struct pod_sheet, straps) == 4, "pod_sheet.straps");
 POD_ASSERT(offsetof(struct pod_sheet, program) == 8, "pod_sheet.program");
 POD_ASSERT(offsetof(struct pod_sheet, slice) == 12, "pod_sheet.slice");
 POD_ASSERT(offsetof(struct pod_sheet, pause) == 16, "pod_sheet.pause");
 POD_ASSERT(sizeof(struct pod_part) == 12, "pod_part");
+POD_ASSERT(offsetof(struct pod_part, from) == 0, "pod_part.from");
 POD_ASSERT(offsetof(struct pod_part, start) == 4, "pod_part.start");
 POD_ASSERT(offsetof(struct pod_part, length) == 8, "pod_part.length");
 

@@ -1,5 +1,5 @@
 /* Frames and rests on one part. */
-#include "bench.h"
+#include "bay/bench.h"
 
 #include "bus/frames.h"
 #include "bus/pins.h"

@@ -3,8 +3,8 @@
 #ifndef BAY_BENCH_H
 #define BAY_BENCH_H
 
+#include "bay/settings.h"
 #include "pod.h"
-#include "settings.h"
 
 #include <stddef.h>
 #include <stdint.h>

@@ -1,9 +1,9 @@
 /* Lock, draft and old file of one target. The signals are held back wherever a file appears and is not noted yet, and
  * let through wherever a disk may be slow. */
-#include "beside.h"
+#include "bay/beside.h"
 
-#include "files.h"
-#include "signals.h"
+#include "bay/files.h"
+#include "bay/signals.h"
 
 #include <errno.h>
 #include <fcntl.h>

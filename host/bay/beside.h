@@ -4,7 +4,7 @@
 #ifndef BAY_BESIDE_H
 #define BAY_BESIDE_H
 
-#include "targets.h"
+#include "bay/targets.h"
 
 #include <signal.h>
 

@@ -1,13 +1,14 @@
 /* bay demo: the night that cost two boards. Twelve bays erase, the harness pulls write protect low for all of them, and
  * the table shows what each block holds afterwards. */
-#include "bench.h"
-#include "commands.h"
-#include "files.h"
-#include "options.h"
+#include "bay/bench.h"
+#include "bay/commands.h"
+#include "bay/files.h"
+#include "bay/options.h"
+#include "bay/text.h"
+#include "bay/words.h"
 #include "bus/addresses.h"
+#include "bus/commands.h"
 #include "bus/pins.h"
-#include "text.h"
-#include "words.h"
 
 #include <stdbool.h>
 #include <stdlib.h>
@@ -73,9 +74,9 @@ static void rest_until(struct bench *bench, uint64_t clock)
 static void erase(struct bench *bench, struct night *night)
 {
     rest_until(bench, night->begun);
-    bench_write(bench, lock_address(night->block), 0x00);
-    bench_write(bench, array_address(night->block * POD_BLOCK_BYTES), 0x20);
-    bench_write(bench, array_address(night->block * POD_BLOCK_BYTES), 0xD0);
+    bench_write(bench, lock_address(night->block), 0);
+    bench_write(bench, array_address(night->block * POD_BLOCK_BYTES), COMMAND_ERASE);
+    bench_write(bench, array_address(night->block * POD_BLOCK_BYTES), COMMAND_RESUME);
     night->begun = bench->clock;
 }
 
@@ -89,13 +90,13 @@ static void live(struct bench *bench, const struct stock *stock, struct night *n
     }
     if (pauses) {
         rest_until(bench, night->begun + NAP);
-        bench_write(bench, array_address(night->block * POD_BLOCK_BYTES), 0xB0);
+        bench_write(bench, array_address(night->block * POD_BLOCK_BYTES), COMMAND_SUSPEND);
     }
     rest_until(bench, PULL);
     night->blank_at_pull = blank_bytes(bench, stock->page, night->block);
     bench->idle = sample_set(bench->idle, POD_SAMPLE_WP, 0);
     if (pauses) {
-        bench_write(bench, array_address(night->block * POD_BLOCK_BYTES), 0xD0);
+        bench_write(bench, array_address(night->block * POD_BLOCK_BYTES), COMMAND_RESUME);
     }
     if (!early) {
         erase(bench, night);

@@ -1,10 +1,10 @@
 /* Rounds of drafts, and what is said where one fails. */
-#include "drafts.h"
+#include "bay/drafts.h"
 
-#include "beside.h"
-#include "files.h"
-#include "signals.h"
-#include "trouble.h"
+#include "bay/beside.h"
+#include "bay/files.h"
+#include "bay/signals.h"
+#include "bay/trouble.h"
 
 #include <errno.h>
 #include <stdio.h>

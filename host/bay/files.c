@@ -1,10 +1,10 @@
 /* Reading whole files, and replacing them whole or not at all. */
-#include "files.h"
+#include "bay/files.h"
 
-#include "drafts.h"
-#include "targets.h"
-#include "text.h"
-#include "trouble.h"
+#include "bay/drafts.h"
+#include "bay/targets.h"
+#include "bay/text.h"
+#include "bay/trouble.h"
 
 #include <errno.h>
 #include <fcntl.h>

@@ -1,7 +1,7 @@
 /* The texts that --help prints. An option, a command or a status has two blanks before it and its words from column 32
  * on; what is usual stands behind them as "(usually ..)". The manual page and docs/bay.md have the same words, which
  * test/help.sh compares. */
-#include "help.h"
+#include "bay/help.h"
 
 #define SETTINGS                                                                                       \
     "  --straps N                    the four strap pins as a number (usually 0)\n"                    \

@@ -1,5 +1,5 @@
 /* The line to one client. */
-#include "link.h"
+#include "bay/link.h"
 
 #include <errno.h>
 #include <limits.h>

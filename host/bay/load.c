@@ -1,8 +1,8 @@
 /* Reading what a run needs, and running it. */
-#include "load.h"
+#include "bay/load.h"
 
-#include "options.h"
-#include "text.h"
+#include "bay/options.h"
+#include "bay/text.h"
 
 #include <stdlib.h>
 #include <string.h>

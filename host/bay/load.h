@@ -2,10 +2,10 @@
 #ifndef BAY_LOAD_H
 #define BAY_LOAD_H
 
-#include "files.h"
+#include "bay/files.h"
+#include "bay/settings.h"
+#include "bay/words.h"
 #include "pod.h"
-#include "settings.h"
-#include "words.h"
 
 /* before: the image as read; after: the copy that the stream ran on. */
 struct load {

@@ -1,9 +1,9 @@
 /* bay: what a fitter runs at night. It knows the bus and has words for what it sees; what the part does is asked of the
  * proved library. */
-#include "commands.h"
-#include "files.h"
-#include "help.h"
-#include "trouble.h"
+#include "bay/commands.h"
+#include "bay/files.h"
+#include "bay/help.h"
+#include "bay/trouble.h"
 
 #include <errno.h>
 #include <fcntl.h>

@@ -1,8 +1,8 @@
 /* Reading a command line. */
-#include "options.h"
+#include "bay/options.h"
 
-#include "files.h"
-#include "trouble.h"
+#include "bay/files.h"
+#include "bay/trouble.h"
 
 #include <string.h>
 

@@ -1,13 +1,13 @@
 /* bay rack: twelve bays side by side under one harness, each in a process of its own, so that none can stop another. */
-#include "commands.h"
-#include "files.h"
-#include "load.h"
-#include "options.h"
-#include "signals.h"
-#include "text.h"
-#include "track.h"
-#include "trouble.h"
-#include "words.h"
+#include "bay/commands.h"
+#include "bay/files.h"
+#include "bay/load.h"
+#include "bay/options.h"
+#include "bay/signals.h"
+#include "bay/text.h"
+#include "bay/track.h"
+#include "bay/trouble.h"
+#include "bay/words.h"
 
 #include <errno.h>
 #include <limits.h>

@@ -1,9 +1,9 @@
 /* bay run: one stream on a copy of one image, and what became of it. */
-#include "commands.h"
-#include "load.h"
-#include "options.h"
-#include "text.h"
-#include "words.h"
+#include "bay/commands.h"
+#include "bay/load.h"
+#include "bay/options.h"
+#include "bay/text.h"
+#include "bay/words.h"
 
 /* Where the results go; null where they are not wanted. */
 struct results {

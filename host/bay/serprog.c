@@ -1,5 +1,5 @@
 /* Requests of a serprog client, turned into frames and rests on the bench. */
-#include "serprog.h"
+#include "bay/serprog.h"
 
 #include "bus/pins.h"
 

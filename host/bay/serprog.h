@@ -2,8 +2,8 @@
 #ifndef BAY_SERPROG_H
 #define BAY_SERPROG_H
 
-#include "bench.h"
-#include "link.h"
+#include "bay/bench.h"
+#include "bay/link.h"
 
 #include <stddef.h>
 #include <stdint.h>

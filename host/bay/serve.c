@@ -1,15 +1,15 @@
 /* bay serve: a pod as a serprog programmer on the loopback address, for flashrom and whatever drives it. */
-#include "bench.h"
-#include "commands.h"
-#include "files.h"
-#include "link.h"
-#include "options.h"
+#include "bay/bench.h"
+#include "bay/commands.h"
+#include "bay/files.h"
+#include "bay/link.h"
+#include "bay/options.h"
+#include "bay/serprog.h"
+#include "bay/signals.h"
+#include "bay/text.h"
+#include "bay/trouble.h"
+#include "bay/words.h"
 #include "bus/pins.h"
-#include "serprog.h"
-#include "signals.h"
-#include "text.h"
-#include "trouble.h"
-#include "words.h"
 
 #include <arpa/inet.h>
 #include <errno.h>

@@ -1,11 +1,11 @@
 /* Straps and times from options or from a bay sheet. */
-#include "settings.h"
+#include "bay/settings.h"
 
-#include "files.h"
+#include "bay/files.h"
+#include "bay/text.h"
+#include "bay/trouble.h"
+#include "bay/words.h"
 #include "pod.h"
-#include "text.h"
-#include "trouble.h"
-#include "words.h"
 
 #include <string.h>
 

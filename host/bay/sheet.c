@@ -1,12 +1,12 @@
 /* bay sheet: a bay sheet's thirteen bytes to words and back. */
-#include "commands.h"
-#include "files.h"
-#include "options.h"
+#include "bay/commands.h"
+#include "bay/files.h"
+#include "bay/options.h"
+#include "bay/settings.h"
+#include "bay/text.h"
+#include "bay/trouble.h"
+#include "bay/words.h"
 #include "pod.h"
-#include "settings.h"
-#include "text.h"
-#include "trouble.h"
-#include "words.h"
 
 #include <stdio.h>
 #include <string.h>

@@ -1,5 +1,5 @@
 /* Taking signals over, holding them back, and giving them back. */
-#include "signals.h"
+#include "bay/signals.h"
 
 #include <stddef.h>
 #include <string.h>

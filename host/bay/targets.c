@@ -1,5 +1,5 @@
 /* Following names to files. */
-#include "targets.h"
+#include "bay/targets.h"
 
 #include <errno.h>
 #include <stdio.h>

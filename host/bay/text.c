@@ -1,7 +1,7 @@
 /* Growing text and numbers as a person writes them. */
-#include "text.h"
+#include "bay/text.h"
 
-#include "trouble.h"
+#include "bay/trouble.h"
 
 #include <stdarg.h>
 #include <stdio.h>

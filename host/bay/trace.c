@@ -1,13 +1,13 @@
 /* bay trace: every frame of a stream in words, and the run as a waveform if that is wanted. */
-#include "commands.h"
+#include "bay/commands.h"
+#include "bay/load.h"
+#include "bay/options.h"
+#include "bay/text.h"
+#include "bay/trouble.h"
+#include "bay/vcd.h"
+#include "bay/words.h"
 #include "bus/frames.h"
-#include "load.h"
-#include "options.h"
 #include "bus/pins.h"
-#include "text.h"
-#include "trouble.h"
-#include "vcd.h"
-#include "words.h"
 
 #include <string.h>
 

@@ -1,11 +1,11 @@
 /* Reading a harness track and laying it over a stream. */
-#include "track.h"
+#include "bay/track.h"
 
-#include "files.h"
+#include "bay/files.h"
+#include "bay/settings.h"
+#include "bay/text.h"
+#include "bay/trouble.h"
 #include "bus/pins.h"
-#include "settings.h"
-#include "text.h"
-#include "trouble.h"
 
 #include <stdbool.h>
 #include <stdlib.h>

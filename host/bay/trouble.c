@@ -1,5 +1,5 @@
 /* One message at a time, on the standard error or into a lent room. */
-#include "trouble.h"
+#include "bay/trouble.h"
 
 #include <stdarg.h>
 #include <stdio.h>

@@ -1,7 +1,7 @@
 /* Writing the waveform. Every wire is one bit wide, since sigrok cannot read wider ones. */
-#include "vcd.h"
+#include "bay/vcd.h"
 
-#include "words.h"
+#include "bay/words.h"
 
 #include <stdbool.h>
 #include <string.h>

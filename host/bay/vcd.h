@@ -2,8 +2,8 @@
 #ifndef BAY_VCD_H
 #define BAY_VCD_H
 
+#include "bay/text.h"
 #include "bus/pins.h"
-#include "text.h"
 
 #include <stdint.h>
 

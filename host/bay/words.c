@@ -1,10 +1,10 @@
 /* The part's numbers in words. */
-#include "words.h"
+#include "bay/words.h"
 
+#include "bay/trouble.h"
 #include "bus/addresses.h"
 #include "bus/pins.h"
 #include "pod.h"
-#include "trouble.h"
 
 #include <stdarg.h>
 #include <stdio.h>

@@ -2,8 +2,8 @@
 #ifndef BAY_WORDS_H
 #define BAY_WORDS_H
 
-#include "settings.h"
-#include "text.h"
+#include "bay/settings.h"
+#include "bay/text.h"
 
 #include <stdbool.h>
 #include <stddef.h>

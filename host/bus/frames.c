@@ -54,11 +54,18 @@ uint16_t frame_sample(const struct frame *frame, unsigned clock, uint16_t idle)
 
 uint8_t frame_answer(const struct frame *frame, unsigned clock)
 {
-    const uint8_t low = POD_ANSWER_DRIVEN | (frame->byte & 0xF), high = (uint8_t)(POD_ANSWER_DRIVEN | frame->byte >> 4);
-    const uint8_t read[] = { 0x15, 0x15, 0x10, low, high, 0x1F, 0x00 };
-    const uint8_t written[] = { 0x00, 0x00, 0x10, 0x1F, 0x00 };
+    enum {
+        FLOATS = 0,
+        WAITS = POD_ANSWER_DRIVEN | 0x5,
+        SYNCS = POD_ANSWER_DRIVEN,
+        TURNS = POD_ANSWER_DRIVEN | FRAME_TURNAROUND
+    };
+    const uint8_t low = POD_ANSWER_DRIVEN | (frame->byte & POD_ANSWER_LINES);
+    const uint8_t high = (uint8_t)(POD_ANSWER_DRIVEN | frame->byte >> 4);
+    const uint8_t read[] = { WAITS, WAITS, SYNCS, low, high, TURNS, FLOATS };
+    const uint8_t written[] = { FLOATS, FLOATS, SYNCS, TURNS, FLOATS };
     if (clock < FRAME_CLOCK_WAIT || clock > frame_clocks(frame)) {
-        return 0x00;
+        return FLOATS;
     }
     return (frame->write ? written : read)[clock - FRAME_CLOCK_WAIT];
 }

@@ -2,6 +2,7 @@
 #include "diff/choices.h"
 
 #include "bus/addresses.h"
+#include "bus/commands.h"
 #include "diff/random.h"
 #include "diff/sides.h"
 #include "diff/trace.h"
@@ -10,7 +11,7 @@
 #include <stdbool.h>
 #include <stddef.h>
 
-enum { ADDRESS_BITS = 28, ADDRESS_HIGH = 0xFF00000 };
+enum { ADDRESS_BITS = 28 };
 
 uint32_t some_block(void)
 {
@@ -40,7 +41,7 @@ uint32_t some_place(void)
 
 uint32_t some_address_of(uint32_t place)
 {
-    const uint32_t high = one_in(4) ? rnd(256) << 20 : ADDRESS_HIGH;
+    const uint32_t high = one_in(4) ? rnd(256) << 20 : ADDRESS_ARRAY;
     return high | ADDRESS_IS_ARRAY | place % POD_IMAGE_BYTES;
 }
 
@@ -64,8 +65,13 @@ uint32_t some_register(void)
 
 uint8_t some_command(void)
 {
-    static const uint8_t bytes[] = { 0xFF, 0xFF, 0x70, 0x70, 0x90, 0x98, 0x50, 0x50, 0x40, 0x40, 0x10, 0x20, 0x20,
-                                     0xB0, 0xB0, 0xB0, 0xD0, 0xD0, 0xD0, 0x00, 0x01, 0x60, 0x2F, 0xC0, 0x30, 0x80 };
+    static const uint8_t bytes[] = { COMMAND_ARRAY,   COMMAND_ARRAY,     COMMAND_STATUS,        COMMAND_STATUS,
+                                     COMMAND_SIGNATURE, COMMAND_SIGNATURE_TOO, COMMAND_CLEAR, COMMAND_CLEAR,
+                                     COMMAND_PROGRAM, COMMAND_PROGRAM,   COMMAND_PROGRAM_TOO,   COMMAND_ERASE,
+                                     COMMAND_ERASE,   COMMAND_SUSPEND,   COMMAND_SUSPEND,       COMMAND_SUSPEND,
+                                     COMMAND_RESUME,  COMMAND_RESUME,    COMMAND_RESUME,        0x00,
+                                     0x01,            0x60,              0x2F,                  0xC0,
+                                     0x30,            0x80 };
     const uint8_t byte = bytes[rnd(sizeof bytes)];
     return one_in(12) ? rnd_byte() : byte;
 }

@@ -1,8 +1,8 @@
 /* The counts of what the traces reached, and printing them. */
 #include "diff/counts.h"
 
+#include "bus/commands.h"
 #include "bus/frames.h"
-#include "diff/commands.h"
 #include "model.h"
 #include "pod.h"
 
@@ -60,12 +60,12 @@ static uint32_t column_of(uint8_t byte)
     case COMMAND_STATUS:
         return 1;
     case COMMAND_SIGNATURE:
-    case COMMAND_SIGNATURE_2:
+    case COMMAND_SIGNATURE_TOO:
         return 2;
     case COMMAND_CLEAR:
         return 3;
     case COMMAND_PROGRAM:
-    case COMMAND_PROGRAM_2:
+    case COMMAND_PROGRAM_TOO:
         return 4;
     case COMMAND_ERASE:
         return 5;

@@ -1,8 +1,8 @@
 /* All sides set to another sound state. */
 #include "diff/elsewhere.h"
 
+#include "bus/commands.h"
 #include "diff/choices.h"
-#include "diff/commands.h"
 #include "diff/condition.h"
 #include "diff/counts.h"
 #include "diff/operations.h"

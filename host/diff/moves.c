@@ -1,10 +1,10 @@
 /* Moves: what the host of a trace does next, by the condition that the model is in. */
 #include "diff/moves.h"
 
+#include "bus/commands.h"
 #include "bus/frames.h"
 #include "diff/calls.h"
 #include "diff/choices.h"
-#include "diff/commands.h"
 #include "diff/condition.h"
 #include "diff/elsewhere.h"
 #include "diff/operations.h"

@@ -2,8 +2,8 @@
 #include "diff/operations.h"
 
 #include "bus/addresses.h"
+#include "bus/commands.h"
 #include "diff/choices.h"
-#include "diff/commands.h"
 #include "diff/random.h"
 #include "diff/sides.h"
 #include "diff/traffic.h"
@@ -67,7 +67,7 @@ static void end_setup(uint32_t block, uint32_t offset, uint8_t byte)
 void begin_program(uint32_t block)
 {
     prepare(block);
-    command(one_in(3) ? COMMAND_PROGRAM_2 : COMMAND_PROGRAM);
+    command(one_in(3) ? COMMAND_PROGRAM_TOO : COMMAND_PROGRAM);
     between();
     const uint32_t offset = one_in(3) ? rnd(POD_BLOCK_BYTES) : rnd(16);
     const uint8_t byte = one_in(4) ? some_command() : rnd_byte();

@@ -2,10 +2,10 @@
 #include "diff/play.h"
 
 #include "bus/addresses.h"
+#include "bus/commands.h"
 #include "bus/frames.h"
 #include "bus/pins.h"
 #include "diff/choices.h"
-#include "diff/commands.h"
 #include "diff/counts.h"
 #include "diff/images.h"
 #include "diff/moves.h"

@@ -2,9 +2,9 @@
 #include "diff/settle.h"
 
 #include "bus/addresses.h"
+#include "bus/commands.h"
 #include "bus/frames.h"
 #include "diff/choices.h"
-#include "diff/commands.h"
 #include "diff/condition.h"
 #include "diff/counts.h"
 #include "diff/images.h"

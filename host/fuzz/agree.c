@@ -1,5 +1,5 @@
 /* A second reading of the words of a sheet, from their first byte to their last. */
-#include "agree.h"
+#include "fuzz/agree.h"
 
 #include "pod.h"
 

@@ -2,7 +2,7 @@
 #ifndef FUZZ_AGREE_H
 #define FUZZ_AGREE_H
 
-#include "spoil.h"
+#include "fuzz/spoil.h"
 
 /* Whether a sheet that was written from words holds all that they say, and they say nothing else. */
 bool words_agree(const struct input *words, const char *sheet);

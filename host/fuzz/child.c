@@ -1,7 +1,7 @@
 /* Children: made, limited, fed, waited for and judged. */
-#include "child.h"
+#include "fuzz/child.h"
 
-#include "client.h"
+#include "fuzz/client.h"
 
 #include <errno.h>
 #include <fcntl.h>

@@ -2,7 +2,7 @@
 #ifndef FUZZ_CHILD_H
 #define FUZZ_CHILD_H
 
-#include "kinds.h"
+#include "fuzz/kinds.h"
 
 #include <limits.h>
 

@@ -1,5 +1,5 @@
 /* The client's end of a line. */
-#include "client.h"
+#include "fuzz/client.h"
 
 #include <errno.h>
 #include <fcntl.h>

@@ -2,7 +2,7 @@
 #ifndef FUZZ_CLIENT_H
 #define FUZZ_CLIENT_H
 
-#include "spoil.h"
+#include "fuzz/spoil.h"
 
 /* Most clients listen to the end and say that they have no more. One goes away once it has spoken, one falls silent. */
 enum manner { MANNER_DEAF = 14, MANNER_SILENT = 15, MANNERS = 16 };

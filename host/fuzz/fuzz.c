@@ -1,8 +1,8 @@
 /* fuzz: everything of bay that reads a file or a socket, on inputs that were spoiled. */
-#include "child.h"
-#include "kinds.h"
-#include "seeds.h"
-#include "spoil.h"
+#include "fuzz/child.h"
+#include "fuzz/kinds.h"
+#include "fuzz/seeds.h"
+#include "fuzz/spoil.h"
 
 #include <errno.h>
 #include <limits.h>

@@ -1,7 +1,6 @@
 /* Each kind of input as a command of bay is given it. */
-#include "kinds.h"
+#include "fuzz/kinds.h"
 
-#include "agree.h"
 #include "bay/bench.h"
 #include "bay/commands.h"
 #include "bay/link.h"
@@ -9,9 +8,12 @@
 #include "bay/text.h"
 #include "bay/track.h"
 #include "bay/trouble.h"
+#include "bus/addresses.h"
+#include "bus/commands.h"
 #include "bus/frames.h"
-#include "client.h"
-#include "pieces.h"
+#include "fuzz/agree.h"
+#include "fuzz/client.h"
+#include "fuzz/pieces.h"
 #include "pod.h"
 
 #include <fcntl.h>
@@ -274,9 +276,15 @@ const struct kind kinds[KINDS] = {
 static size_t short_stream(uint8_t *stream)
 {
     const struct frame frames[] = {
-        frame_write(0, 0xFB30002, 0x00), frame_write(0, 0xFF30000, 0x20), frame_write(0, 0xFF30000, 0xD0),
-        frame_read(0, 0xFF30000),        frame_write(0, 0xFB50002, 0x00), frame_write(0, 0xFF50000, 0x40),
-        frame_write(0, 0xFF50000, 0x5A), frame_write(0, 0xFF50000, 0xFF), frame_read(0, 0xFBC0000),
+        frame_write(0, lock_address(3), 0),
+        frame_write(0, array_address(0x30000), COMMAND_ERASE),
+        frame_write(0, array_address(0x30000), COMMAND_RESUME),
+        frame_read(0, array_address(0x30000)),
+        frame_write(0, lock_address(5), 0),
+        frame_write(0, array_address(0x50000), COMMAND_PROGRAM),
+        frame_write(0, array_address(0x50000), 0x5A),
+        frame_write(0, array_address(0x50000), COMMAND_ARRAY),
+        frame_read(0, ADDRESS_MAKER),
     };
     enum { REST = 400 };
     size_t at = 0;

@@ -2,7 +2,7 @@
 #ifndef FUZZ_KINDS_H
 #define FUZZ_KINDS_H
 
-#include "spoil.h"
+#include "fuzz/spoil.h"
 
 /* What a child is to do. choice: drawn from the input alone, so that an input is always handed over in the same way.
  * line: the server's end of a line to a client, where the kind has one. */

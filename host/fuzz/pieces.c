@@ -1,6 +1,8 @@
 /* Frames, requests, lines and sheets from drawn numbers. */
-#include "pieces.h"
+#include "fuzz/pieces.h"
 
+#include "bus/addresses.h"
+#include "bus/commands.h"
 #include "bus/frames.h"
 #include "pod.h"
 
@@ -11,23 +13,25 @@
 /* A command byte of the part, or any byte. */
 static uint8_t draw_command(struct draws *draws)
 {
-    static const uint8_t commands[] = { 0xFF, 0x70, 0x90, 0x50, 0x20, 0xD0, 0x40, 0x10, 0xB0, 0x98, 0x60, 0x00, 0x01 };
+    static const uint8_t commands[] = { COMMAND_ARRAY,       COMMAND_STATUS,  COMMAND_SIGNATURE, COMMAND_CLEAR,
+                                        COMMAND_ERASE,       COMMAND_RESUME,  COMMAND_PROGRAM,   COMMAND_PROGRAM_TOO,
+                                        COMMAND_SUSPEND,     COMMAND_SIGNATURE_TOO, 0x60, 0x00, 0x01 };
     return draw_one_in(draws, 6) ? (uint8_t)draw(draws) : commands[draw_below(draws, sizeof commands)];
 }
 
 /* The array, the lock registers, the other registers, or anywhere. */
 static uint32_t draw_address(struct draws *draws)
 {
-    uint32_t block = (uint32_t)draw_below(draws, POD_BLOCKS) << 16;
+    uint32_t block = (uint32_t)draw_below(draws, POD_BLOCKS);
     switch (draw_below(draws, 4)) {
     case 0:
-        return 0xFB00002U | block;
+        return lock_address(block);
     case 1:
-        return 0xFBC0000U + (uint32_t)draw_below(draws, 0x110);
+        return ADDRESS_MAKER + (uint32_t)draw_below(draws, ADDRESS_INPUTS + 0x10 - ADDRESS_MAKER);
     case 2:
-        return (uint32_t)draw(draws) & 0xFFFFFFFU;
+        return (uint32_t)draw(draws) & ADDRESS_MOST;
     default:
-        return 0xFF00000U | block | (uint32_t)draw_below(draws, 4);
+        return array_address(block * POD_BLOCK_BYTES + (uint32_t)draw_below(draws, 4));
     }
 }
 

@@ -2,7 +2,7 @@
 #ifndef FUZZ_PIECES_H
 #define FUZZ_PIECES_H
 
-#include "spoil.h"
+#include "fuzz/spoil.h"
 
 /* Each makes one part in a room of PIECE_MOST bytes and gives its length. */
 size_t piece_frame(struct draws *draws, uint8_t *room);

@@ -1,5 +1,5 @@
 /* Reading seeds. */
-#include "seeds.h"
+#include "fuzz/seeds.h"
 
 #include <dirent.h>
 #include <errno.h>

@@ -2,7 +2,7 @@
 #ifndef FUZZ_SEEDS_H
 #define FUZZ_SEEDS_H
 
-#include "spoil.h"
+#include "fuzz/spoil.h"
 
 enum { SEEDS_MOST = 256 };
 

@@ -1,5 +1,5 @@
 /* Bits turned, bytes put in, left out, repeated and brought over from another seed. */
-#include "spoil.h"
+#include "fuzz/spoil.h"
 
 #include <stdio.h>
 #include <string.h>

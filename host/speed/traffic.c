@@ -2,6 +2,7 @@
 #include "speed/traffic.h"
 
 #include "bus/addresses.h"
+#include "bus/commands.h"
 #include "bus/frames.h"
 #include "bus/pins.h"
 #include "speed/room.h"
@@ -12,10 +13,6 @@
 
 enum {
     STRAPS = 0,
-    COMMAND_ERASE = 0x20,
-    COMMAND_PROGRAM = 0x40,
-    COMMAND_SUSPEND = 0xB0,
-    COMMAND_CONFIRM = 0xD0,
     BLOCK = 3, /* that operations work on where one block is enough */
     STRIDE = 0x61C89 /* between two reads, so that they go all over the array */
 };
@@ -116,7 +113,7 @@ void traffic_begin_program(uint32_t place, uint8_t byte)
 void traffic_begin_erase(uint32_t block)
 {
     lay_write(array_address(block * POD_BLOCK_BYTES), COMMAND_ERASE);
-    lay_write(array_address(block * POD_BLOCK_BYTES), COMMAND_CONFIRM);
+    lay_write(array_address(block * POD_BLOCK_BYTES), COMMAND_RESUME);
 }
 
 void traffic_suspend(void)

@@ -2,6 +2,7 @@
 #include "test/edges.h"
 
 #include "bus/addresses.h"
+#include "bus/commands.h"
 #include "bus/pins.h"
 #include "test/any.h"
 #include "test/fields.h"
@@ -76,7 +77,9 @@ static size_t lay_wait(uint16_t idle, uint16_t samples[FRAME_MOST_CLOCKS])
 
 size_t edge_traffic(unsigned straps, uint16_t samples[FRAME_MOST_CLOCKS])
 {
-    static const uint8_t commands[] = { 0xFF, 0x70, 0x90, 0x50, 0x40, 0x10, 0x20, 0xB0, 0xD0, 0xD0, 0xB0, 0x00 };
+    static const uint8_t commands[] = { COMMAND_ARRAY,   COMMAND_STATUS,      COMMAND_SIGNATURE, COMMAND_CLEAR,
+                                        COMMAND_PROGRAM, COMMAND_PROGRAM_TOO, COMMAND_ERASE,     COMMAND_SUSPEND,
+                                        COMMAND_RESUME,  COMMAND_RESUME,      COMMAND_SUSPEND,   0x00 };
     const uint16_t idle = edge_idle();
     const uint32_t block = 13 + any_below(3);
     const uint32_t address = array_address(POD_BLOCK_BYTES * block + any_below(2));

@@ -2,25 +2,12 @@
 #ifndef TEST_EXPECTED_H
 #define TEST_EXPECTED_H
 
+#include "bus/commands.h"
 #include "pod.h"
 #include "test/scope.h"
 
 #include <stddef.h>
 #include <stdint.h>
-
-/* The commands of document 01's table. */
-enum {
-    COMMAND_PROGRAM_TOO = 0x10,
-    COMMAND_ERASE = 0x20,
-    COMMAND_PROGRAM = 0x40,
-    COMMAND_CLEAR = 0x50,
-    COMMAND_STATUS = 0x70,
-    COMMAND_SIGNATURE = 0x90,
-    COMMAND_SIGNATURE_TOO = 0x98,
-    COMMAND_SUSPEND = 0xB0,
-    COMMAND_RESUME = 0xD0, /* behind an erase setup it confirms the erase */
-    COMMAND_ARRAY = 0xFF
-};
 
 /* The device some clocks on, none of which is the last of an operation, a slice or a pause, with the bus idle. */
 struct pod_device after_clocks(struct pod_device device, uint32_t clocks);

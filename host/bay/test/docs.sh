@@ -31,4 +31,10 @@ for script in "$root"/host/bay/data/*.lay "$root"/host/bay/data/*/*.lay; do
     same laid "${script%.lay}.stream"
 done
 
+case_ "so is each seed of the fuzz that has one"
+for script in "$root"/host/fuzz/lay/*.lay; do
+    lay <"$script" >laid
+    same laid "$root/host/fuzz/seeds/stream/$(basename "$script" .lay).stream"
+done
+
 finish
