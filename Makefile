@@ -123,13 +123,13 @@ checked:
 VERSION = $(shell sed -n 's/^.define POD_VERSION_M[AI][JN]OR //p' host/pod.h | paste -sd.)
 TO      = $(DESTDIR)$(PREFIX)
 
-install: $(POD_LIB) build/bay
-	@install -d $(TO)/bin $(TO)/include $(TO)/lib/pkgconfig $(TO)/share/man/man1
-	@install -m 644 $(POD_LIB) $(TO)/lib
-	@install -m 644 host/pod.h $(TO)/include
-	@sed 's|@PREFIX@|$(abspath $(PREFIX))|; s|@VERSION@|$(VERSION)|' host/pod.pc.in >$(TO)/lib/pkgconfig/pod.pc
-	@install $(wildcard build/bay build/bay.x86-64) $(TO)/bin
-	@install -m 644 host/bay/bay.1 $(TO)/share/man/man1
+install: $(POD_LIB) $(BUILD)/bay
+	@install -d "$(TO)/bin" "$(TO)/include" "$(TO)/lib/pkgconfig" "$(TO)/share/man/man1"
+	@install -m 644 $(POD_LIB) "$(TO)/lib"
+	@install -m 644 host/pod.h "$(TO)/include"
+	@sed "s|@PREFIX@|$$(realpath -m -- "$(PREFIX)")|; s|@VERSION@|$(VERSION)|" host/pod.pc.in >"$(TO)/lib/pkgconfig/pod.pc"
+	@for file in $(BUILD)/bay $(BUILD)/bay.x86-64; do [ ! -e $$file ] || install $$file "$(TO)/bin"; done
+	@install -m 644 host/bay/bay.1 "$(TO)/share/man/man1"
 	@echo "installed pod $(VERSION) in $(TO)"
 
 # ---- Jobs.

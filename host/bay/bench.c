@@ -23,7 +23,7 @@ static uint8_t lay(struct bench *bench, const struct frame *frame)
     uint16_t samples[FRAME_MOST_CLOCKS];
     size_t clocks = frame_lay(frame, bench->idle, samples);
     uint32_t nibbles[2] = { POD_ANSWER_LINES, POD_ANSWER_LINES };
-    for (size_t i = 0; i < clocks && bench->refusal == 0; i++) {
+    for (size_t i = 0; i < clocks && bench->refusal == POD_DONE; i++) {
         struct pod_clocked clocked = pod_clock(&bench->device, bench->image, bench->image_length, samples[i]);
         bench->refusal = clocked.number;
         bench->clock++;
@@ -51,7 +51,7 @@ void bench_write(struct bench *bench, uint32_t address, uint8_t byte)
  * so none is in progress here. */
 static uint64_t rest_while_busy(struct bench *bench, uint64_t clocks)
 {
-    while (clocks > 0 && bench->refusal == 0) {
+    while (clocks > 0 && bench->refusal == POD_DONE) {
         uint32_t limit = clocks < UINT32_MAX ? (uint32_t)clocks : UINT32_MAX;
         struct pod_settled settled = pod_settle(bench->device, bench->image, bench->image_length, bench->idle, limit);
         if (settled.number != POD_DONE && settled.number != POD_STILL_BUSY) {

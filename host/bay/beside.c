@@ -188,7 +188,7 @@ int beside_sync(const struct beside *beside)
     int error = 0;
     int folder = open(target_folder(&beside->target).text, O_RDONLY | O_CLOEXEC);
     if (folder < 0) {
-        return 0;
+        return errno;
     }
     if (fsync(folder) != 0 && errno != EINVAL && errno != EOPNOTSUPP) {
         error = errno;

@@ -179,7 +179,7 @@ static int show(struct text *text, const struct stock *stock, uint8_t *image)
         memcpy(image, stock->firmware, POD_IMAGE_BYTES);
         bench_power_up(&bench, &bay_settings);
         live(&bench, stock, &nights[i]);
-        if (bench.refusal != 0) {
+        if (bench.refusal != POD_DONE) {
             return refused(bench.refusal,
                            &(struct facts){ .image = "demo", .stream = "demo", .settings = bay_settings });
         }

@@ -9,7 +9,7 @@
     "  --sheet FILE                  straps and times from a bay sheet instead\n"
 
 #define STATUSES "The exit status is 0 when done; bay --help has the others.\n"
-#define NOTHING_CHANGED "On an error no file is changed.\n"
+#define NOTHING_CHANGED "On an error no file is changed, unless the message says so.\n"
 
 const char help_bay[] =
     "bay: an M50FW080 flash part on the bench, clock by clock\n"
@@ -21,7 +21,7 @@ const char help_bay[] =
     "  bay serve --port N IMAGE      let flashrom at the part\n"
     "  bay sheet read SHEET          a bay sheet in words\n"
     "  bay sheet write SHEET         a bay sheet from words\n"
-    "  bay COMMAND --help            more about one of them\n"
+    "  bay COMMAND --help            more about one of them, as bay help COMMAND\n"
     "\n"
     "An option's value is the next word, or stands behind =, as in --times=10,1,30.\n"
     "Words behind -- are names, even if they begin with a dash.\n"
@@ -108,8 +108,8 @@ const char help_serve[] =
     "\n"
     "Speaks flashrom's serprog protocol (bus type FWH) on 127.0.0.1, to one client at a\n"
     "time. The part stays powered from client to client. After each client, once the\n"
-    "part is ready, IMAGE is replaced if it has changed. SIGINT or SIGTERM ends the\n"
-    "server the same way.\n"
+    "part is ready, IMAGE is replaced if it has changed. SIGINT, SIGTERM or\n"
+    "SIGHUP ends the server the same way.\n"
     "\n"
     "  --port N                      the port; 0 takes a free one and says which\n"
     "  --wp low|high                 hold write protect low or high (usually high)\n"

@@ -11,7 +11,6 @@
 
 const char link_over[] = "time is over";
 const char link_ended[] = "the server is to end";
-const char link_closed[] = "the client closed the line";
 const char link_broke[] = "the line broke";
 
 int64_t milliseconds(void)
@@ -115,7 +114,7 @@ static bool refill(struct link *link)
     }
     ssize_t got = recv(link->client, link->in, LINK_ROOM, 0);
     if (got == 0) {
-        return end(link, link_closed);
+        return end(link, "the client closed the line");
     }
     if (got < 0 && errno != EINTR && errno != EAGAIN) {
         return end(link, "the client went away");

@@ -46,7 +46,6 @@ bool link_flush(struct link *link);
 /* Why a wait or a line ended, where a caller must tell them apart. */
 extern const char link_over[];   /* the server's time is over */
 extern const char link_ended[];  /* the server is to end */
-extern const char link_closed[]; /* the client closed the line */
 extern const char link_broke[];  /* the system failed to wait; errno says why */
 
 #endif

@@ -294,7 +294,7 @@ static bool serve_one(struct serprog *s)
         return false;
     }
     s->requests++;
-    return request->serve(s, parameters) && s->bench->refusal == 0;
+    return request->serve(s, parameters) && s->bench->refusal == POD_DONE;
 }
 
 void serprog_serve(struct serprog *serprog)

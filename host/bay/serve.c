@@ -249,7 +249,7 @@ static int end_server(struct server *server, const char *why)
 {
     int status = 0;
     say("the server ends: %s\n", why != NULL ? why : "the last client is served");
-    if (server->bench.refusal != 0) {
+    if (server->bench.refusal != POD_DONE) {
         status = refused(server->bench.refusal, &(struct facts){ .image = server->image, .stream = "the client" });
     } else if (why == door_shut || why == link_broke) {
         status = no_client(server->door.error);
@@ -263,7 +263,7 @@ static int serve_clients(struct server *server)
 {
     const char *why = NULL;
     server->until = milliseconds() + (int64_t)server->seconds * 1000;
-    while (server->served < server->clients && why == NULL && server->bench.refusal == 0) {
+    while (server->served < server->clients && why == NULL && server->bench.refusal == POD_DONE) {
         why = wait_for(&(struct wait){ .file = server->listener, .stop = server->stop, .until = server->until });
         int client = why == NULL ? accept(server->listener, NULL, NULL) : -1;
         if (client < 0) {
@@ -289,7 +289,7 @@ static int power_up(struct server *server, const struct bytes *image)
     bench->image = image->at;
     bench->image_length = image->length;
     bench_power_up(bench, &server->settings);
-    if (bench->refusal == 0) {
+    if (bench->refusal == POD_DONE) {
         server->saved = must_have(image->length);
         memcpy(server->saved, image->at, image->length);
         return 0;

@@ -91,10 +91,10 @@ int settings_take(const struct settings_options *options, struct settings *out)
     }
     if (options->straps != NULL && !number_take(options->straps, &out->straps)) {
         return trouble(TROUBLE_USAGE, "--straps is not a number\n"
-                                      "  expected  a whole number, 0 to 15\n"
+                                      "  expected  a whole number, 0 to %d\n"
                                       "  found     %s\n"
                                       "  do        give it as in --straps 3",
-                       options->straps);
+                       POD_STRAPS_MOST, options->straps);
     }
     if (options->times != NULL && !times_take(options->times, out)) {
         return trouble(TROUBLE_USAGE, "--times is not three numbers\n"

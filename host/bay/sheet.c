@@ -128,7 +128,7 @@ static int sheet_write(int count, char **words)
     uint8_t sheet[POD_SHEET_BYTES];
     uint32_t number =
         pod_sheet_write(sheet, sizeof sheet, settings.straps, settings.program, settings.slice, settings.pause);
-    if (number != 0) {
+    if (number != POD_DONE) {
         return refused(number, &(struct facts){ .settings = settings });
     }
     return deliver(&(struct output){ .path = path, .at = sheet, .length = sizeof sheet }, 1);

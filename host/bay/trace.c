@@ -154,8 +154,8 @@ static int step_through(struct load *load, const struct pod_report *report, stru
         struct happened now = { .clock = clock, .before = pod_status(device) };
         now.seen.sample = sample_at(load->samples.at, clock);
         struct pod_clocked clocked = pod_clock(&device, load->before.at, load->before.length, now.seen.sample);
-        if (up.number != 0 || clocked.number != 0) {
-            return refused(up.number != 0 ? up.number : clocked.number, &(struct facts){ .image = load->image });
+        if (up.number != POD_DONE || clocked.number != POD_DONE) {
+            return refused(up.number != POD_DONE ? up.number : clocked.number, &(struct facts){ .image = load->image });
         }
         now.seen.answer = clocked.answer;
         now.after = pod_status(device);

@@ -199,6 +199,14 @@ static struct brief first_class_3(const struct facts *facts)
     return out;
 }
 
+static struct brief time_ranges(void)
+{
+    struct brief out = { "" };
+    brief_add(&out, "program 1 to %s, slice 1 to %s, pause 1 to %s microseconds", counted(POD_PROGRAM_MOST).text,
+              counted(POD_SLICE_MOST).text, counted(POD_PAUSE_MOST).text);
+    return out;
+}
+
 int refused(uint32_t number, const struct facts *facts)
 {
     const struct settings *s = &facts->settings;
@@ -214,29 +222,29 @@ int refused(uint32_t number, const struct facts *facts)
     case POD_REFUSED_STRAPS:
         if (facts->sheet != NULL) {
             return trouble(status, "refusal 3: %s has straps that the part has not\n"
-                                   "  expected  straps 0 to 15\n"
+                                   "  expected  straps 0 to %d\n"
                                    "  found     %s\n"
                                    "  do        write the sheet anew with bay sheet write",
-                           facts->sheet, sheet_found(facts).text);
+                           facts->sheet, POD_STRAPS_MOST, sheet_found(facts).text);
         }
         return trouble(status, "refusal 3: there are no such straps\n"
-                               "  expected  straps 0 to 15\n"
+                               "  expected  straps 0 to %d\n"
                                "  found     %s\n"
-                               "  do        give the four strap pins as a number from 0 to 15",
-                       counted(s->straps).text);
+                               "  do        give the four strap pins as a number from 0 to %d",
+                       POD_STRAPS_MOST, counted(s->straps).text, POD_STRAPS_MOST);
     case POD_REFUSED_TIMES:
         if (facts->sheet != NULL) {
             return trouble(status, "refusal 4: %s has a time that is out of range\n"
-                                   "  expected  program 1 to 200, slice 1 to 39,062, pause 1 to 30 microseconds\n"
+                                   "  expected  %s\n"
                                    "  found     %s\n"
                                    "  do        write the sheet anew with bay sheet write",
-                           facts->sheet, sheet_found(facts).text);
+                           facts->sheet, time_ranges().text, sheet_found(facts).text);
         }
         return trouble(status, "refusal 4: a time is out of range\n"
-                               "  expected  program 1 to 200, slice 1 to 39,062, pause 1 to 30 microseconds\n"
+                               "  expected  %s\n"
                                "  found     program %s, slice %s, pause %s\n"
                                "  do        give three times within their ranges",
-                       counted(s->program).text, counted(s->slice).text, counted(s->pause).text);
+                       time_ranges().text, counted(s->program).text, counted(s->slice).text, counted(s->pause).text);
     case POD_REFUSED_STREAM:
         return trouble(status, "refusal 5: %s is not a stream of samples\n"
                                "  expected  two bytes for each sample and at most %s bytes\n"

@@ -18,7 +18,8 @@ uint32_t some_block(void)
     return one_in(6) ? rnd(POD_BLOCKS) : trace.favourites[rnd(FAVOURITES)];
 }
 
-uint32_t some_place(void)
+/* A place in the array, often one where something is going on. */
+static uint32_t some_place(void)
 {
     uint32_t place = 0;
     switch (rnd(8)) {

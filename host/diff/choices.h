@@ -9,10 +9,8 @@
 /* A block, mostly one of the trace's favourites. */
 uint32_t some_block(void);
 
-/* A place in the array, often one where something is going on. */
-uint32_t some_place(void);
-
-/* An address whose array bits name a place; the bits that do not count are any. */
+/* An address whose array bits name a place, one given or often one where something is going on; the bits that do not
+ * count are any. */
 uint32_t some_address_of(uint32_t place);
 uint32_t some_array_address(void);
 

@@ -75,5 +75,5 @@ bool words_agree(const struct input *words, const char *sheet)
         found += unit ? 0 : 1U << 8 * field;
         field = unit ? FIELDS : field;
     }
-    return read.number == 0 && found == 0x01010101U;
+    return read.number == POD_DONE && found == 0x01010101U;
 }

@@ -254,7 +254,7 @@ static int carry_serprog(const struct task *task)
     (void)close(task->line);
     bench_settle(&bench);
     bool ready = (pod_status(bench.device) & POD_STATUS_READY) != 0;
-    bool sound = bench.refusal == 0 && ready && link.why != NULL && link.why != link_ended;
+    bool sound = bench.refusal == POD_DONE && ready && link.why != NULL && link.why != link_ended;
     if (!sound || serprog.length > SERPROG_BUFFER || link.in_at > link.in_end || link.out_end > LINK_ROOM) {
         return trouble(TROUBLE_SOFTWARE, "the server is not as it should be: refusal %u, %s", (unsigned)bench.refusal,
                        link.why != NULL ? link.why : "no end");

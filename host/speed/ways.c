@@ -11,7 +11,8 @@
 
 enum { FILLER = 0xA5 };
 
-uint8_t *lent_image, *lent_answers;
+uint8_t *lent_image;
+static uint8_t *lent_answers;
 static uint8_t *wanted_image, *wanted_answers; /* what model_run made of the same */
 
 void ways_new(void)

@@ -11,8 +11,8 @@ enum way { MODEL_RUN, POD_RUN, MODEL_STEP, POD_STEP, POD_CLOCK, WAYS };
 
 const char *way_name(enum way way);
 
-/* The image and the answers that every side is lent in turn. */
-extern uint8_t *lent_image, *lent_answers;
+/* The image that every side is lent in turn. */
+extern uint8_t *lent_image;
 void ways_new(void);
 void ways_free(void);
 

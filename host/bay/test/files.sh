@@ -107,6 +107,8 @@ for job in $jobs; do
         case $job,$(states "$job") in
         *torn* | run_over,*none* | sheet,none | trace,none) wrong "$job, killed at call $n: $(states "$job")" ;;
         esac
+        left=$(find . -name '.?*' ! -name '.bay-*.draft' ! -name '.bay-*.old' ! -name '.bay-*.lock')
+        [ -z "$left" ] || wrong "$job, killed at call $n: left over $left"
         again "$job"
     done
 done

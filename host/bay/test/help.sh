@@ -160,12 +160,9 @@ sed -nE 's/^ *TROUBLE_[A-Z_]+ = ([0-9]+),? *\/\* (.*) \*\/$/status|\1|\2/p' "$ro
 grep -E '^status\|[0-9][0-9]\|' help | diff known - >difference || wrong "$(cat difference)"
 
 case_ "the page is set without a warning"
-command -v groff >/dev/null || "$root/tools/setup" bay >setup.log 2>&1
-if command -v groff >/dev/null; then
+if installed bay groff; then
     groff -man -ww -z "$page" >out 2>&1
     [ -s out ] && wrong "$(cat out)"
-else
-    echo "${0##*/}: groff is not installed, so the page was not set"
 fi
 
 finish
