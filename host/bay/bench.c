@@ -9,7 +9,7 @@ void bench_power_up(struct bench *bench, const struct settings *settings)
     struct pod_powered up = pod_power_up(settings->straps, settings->program, settings->slice, settings->pause);
     bench->device = up.device;
     bench->refusal = up.number;
-    bench->select = (uint8_t)(settings->straps & 0xF);
+    bench->select = (uint8_t)(settings->straps & POD_STRAPS_MOST);
     bench->clock = 0;
     if (up.number == POD_DONE) {
         /* no sample is taken, but image and pins are looked at */
@@ -17,22 +17,19 @@ void bench_power_up(struct bench *bench, const struct settings *settings)
     }
 }
 
-/* Lays one frame and gives the two nibbles that the device drove where a read has its data. */
+/* Lays one frame and gives the byte that the device drove where a read has its data. */
 static uint8_t lay(struct bench *bench, const struct frame *frame)
 {
     uint16_t samples[FRAME_MOST_CLOCKS];
+    uint32_t answers[FRAME_MOST_CLOCKS] = { 0 };
     size_t clocks = frame_lay(frame, bench->idle, samples);
-    uint32_t nibbles[2] = { POD_ANSWER_LINES, POD_ANSWER_LINES };
     for (size_t i = 0; i < clocks && bench->refusal == POD_DONE; i++) {
         struct pod_clocked clocked = pod_clock(&bench->device, bench->image, bench->image_length, samples[i]);
         bench->refusal = clocked.number;
         bench->clock++;
-        size_t data = i + 1 - FRAME_CLOCK_READ;
-        if (i + 1 >= FRAME_CLOCK_READ && data < 2 && (clocked.answer & POD_ANSWER_DRIVEN) != 0) {
-            nibbles[data] = clocked.answer & POD_ANSWER_LINES;
-        }
+        answers[i] = clocked.answer;
     }
-    return (uint8_t)(nibbles[0] | nibbles[1] << 4);
+    return frame_byte(answers[FRAME_CLOCK_READ - 1], answers[FRAME_CLOCK_READ]);
 }
 
 uint8_t bench_read(struct bench *bench, uint32_t address)

@@ -13,28 +13,28 @@
 
 enum { TRACK_MOST = 1 << 20 };
 
-/* The words of one line, ended by zero bytes in place of blanks. */
-struct words {
+/* What is left of one line, whose words are ended by zero bytes in place of blanks. */
+struct rest {
     char *at;
     char *end;
 };
 
-static char *next_word(struct words *words)
+static char *next_word(struct rest *rest)
 {
-    while (words->at < words->end && strchr(" \t\r", *words->at) != NULL) {
-        words->at++;
+    while (rest->at < rest->end && strchr(" \t\r", *rest->at) != NULL) {
+        rest->at++;
     }
-    if (words->at >= words->end || *words->at == '#' || *words->at == '\0') {
+    if (rest->at >= rest->end || *rest->at == '#' || *rest->at == '\0') {
         return NULL;
     }
-    char *word = words->at;
-    while (words->at < words->end && strchr(" \t\r#", *words->at) == NULL) {
-        words->at++;
+    char *word = rest->at;
+    while (rest->at < rest->end && strchr(" \t\r#", *rest->at) == NULL) {
+        rest->at++;
     }
-    if (words->at < words->end && *words->at == '#') {
-        words->end = words->at;
+    if (rest->at < rest->end && *rest->at == '#') {
+        rest->end = rest->at;
     }
-    *words->at++ = '\0';
+    *rest->at++ = '\0';
     return word;
 }
 
@@ -63,19 +63,19 @@ static bool take_setting(struct pull *pull, const char *name, const char *value)
 }
 
 /* One line. Gives 0 for a blank one, 1 for a pull, -1 for what is neither. */
-static int take_line(struct pull *pull, struct words words)
+static int take_line(struct pull *pull, struct rest rest)
 {
     *pull = (struct pull){ 0, 0, 0 };
-    const char *word = next_word(&words);
+    const char *word = next_word(&rest);
     if (word == NULL) {
         return 0;
     }
-    const char *clock = next_word(&words);
+    const char *clock = next_word(&rest);
     if (strcmp(word, "at") != 0 || clock == NULL || !number_take(clock, &pull->clock)) {
         return -1;
     }
-    while ((word = next_word(&words)) != NULL) {
-        if (!take_setting(pull, word, next_word(&words))) {
+    while ((word = next_word(&rest)) != NULL) {
+        if (!take_setting(pull, word, next_word(&rest))) {
             return -1;
         }
     }
@@ -101,7 +101,7 @@ static int take_lines(const char *path, char *text, struct track *out)
         memcpy(shown, line, length < sizeof shown - 1 ? length : sizeof shown - 1);
         line[length] = '\0';
         struct pull *pull = &out->pulls[out->count];
-        int kind = take_line(pull, (struct words){ line, line + length });
+        int kind = take_line(pull, (struct rest){ line, line + length });
         bool falls = kind > 0 && out->count > 0 && pull->clock < pull[-1].clock;
         if (kind < 0 || falls) {
             return bad_line(path, number, shown);

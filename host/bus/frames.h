@@ -59,6 +59,9 @@ uint16_t frame_sample(const struct frame *frame, unsigned clock, uint16_t idle);
 /* The answer byte that a part gives on that clock to a frame that it takes. */
 uint8_t frame_answer(const struct frame *frame, unsigned clock);
 
+/* The byte of a read, from the answers on the two clocks that have its data. A nibble that nobody drives is 1111b. */
+uint8_t frame_byte(uint32_t low, uint32_t high);
+
 /* Lays all of it over an idle sample; gives its clocks. */
 size_t frame_lay(const struct frame *frame, uint16_t idle, uint16_t samples[FRAME_MOST_CLOCKS]);
 

@@ -181,13 +181,13 @@ static void take_idle(struct script *script, struct words *words)
 
 static void take_reset(struct script *script, struct words *words)
 {
-    unsigned low = 0;
+    const unsigned both = POD_SAMPLE_RP | POD_SAMPLE_INIT;
+    const struct pin *pin = pin_named(words_look(words));
+    unsigned low = pin == NULL ? 0 : pin->mask & both;
     if (words_take_if(words, "both")) {
-        low = POD_SAMPLE_RP | POD_SAMPLE_INIT;
-    } else if (words_take_if(words, "rp")) {
-        low = POD_SAMPLE_RP;
-    } else if (words_take_if(words, "init")) {
-        low = POD_SAMPLE_INIT;
+        low = both;
+    } else if (low != 0) {
+        (void)words_take_if(words, pin->name);
     } else {
         words_wrong(words, "expected rp, init or both, found %s", words_found(words));
     }

@@ -81,9 +81,10 @@ static void settle_in(const struct place *place, bool loud)
     limit(RLIMIT_FSIZE, FILE_MOST);
     limit(RLIMIT_NOFILE, FILES_MOST);
     limit(RLIMIT_CORE, 0);
-    (void)signal(SIGALRM, SIG_DFL);
-    (void)signal(SIGINT, SIG_DFL);
-    (void)signal(SIGTERM, SIG_DFL);
+    static const int usual[] = { SIGALRM, SIGINT, SIGTERM, SIGHUP, SIGPIPE };
+    for (size_t i = 0; i < sizeof usual / sizeof usual[0]; i++) {
+        (void)signal(usual[i], SIG_DFL);
+    }
     (void)signal(SIGXFSZ, SIG_IGN); /* as bay's main has it */
     (void)alarm(SECONDS);
 }
@@ -262,6 +263,7 @@ bool place_make(struct place *place)
     memset(&ours, 0, sizeof ours);
     ours.sa_handler = on_alarm;
     int back = open(".", O_RDONLY | O_CLOEXEC);
+    place->folder[0] = '\0';
     bool made = named(place->folder, above != NULL && above[0] != '\0' ? above : P_tmpdir, "fuzz-XXXXXX") &&
                 mkdtemp(place->folder) != NULL && named(place->told, place->folder, "told") &&
                 named(place->turn, place->folder, "turn") && mkdir(place->turn, 0700) == 0 && back >= 0 &&
@@ -278,5 +280,8 @@ bool place_make(struct place *place)
 
 void place_remove(const struct place *place)
 {
+    if (place->folder[0] == '\0') {
+        return;
+    }
     (void)nftw(place->folder, only_remove, 8, FTW_DEPTH | FTW_PHYS);
 }

@@ -58,6 +58,16 @@ static void on_signal(int number)
     ended = 1;
 }
 
+/* What would end the driver lets it end in order, with its folder removed. */
+static void catch_signals(void)
+{
+    static const int numbers[] = { SIGINT, SIGTERM, SIGHUP, SIGPIPE };
+    struct sigaction ours = { .sa_handler = on_signal };
+    for (size_t i = 0; i < sizeof numbers / sizeof numbers[0]; i++) {
+        (void)sigaction(numbers[i], &ours, NULL);
+    }
+}
+
 static int64_t milliseconds_now(void)
 {
     struct timespec now = { 0, 0 };
@@ -264,12 +274,11 @@ int main(int count, char **words)
         (void)fputs(usage, stderr);
         return EXIT_USAGE;
     }
-    if (!place_make(&place)) {
-        return 1;
+    catch_signals();
+    int status = 1;
+    if (place_make(&place)) {
+        status = asked.replay != NULL ? replay(&asked, &place) : fuzz(&asked, &place);
     }
-    (void)signal(SIGINT, on_signal);
-    (void)signal(SIGTERM, on_signal);
-    int status = asked.replay != NULL ? replay(&asked, &place) : fuzz(&asked, &place);
     place_remove(&place);
     return status;
 }

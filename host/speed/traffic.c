@@ -82,9 +82,7 @@ static uint8_t lay_frame(const struct frame *frame)
     for (size_t i = 0; i < clocks; i++) {
         answers[i] = lay(samples[i]);
     }
-    const unsigned low = answers[FRAME_CLOCK_READ - 1] & POD_ANSWER_LINES;
-    const unsigned high = answers[FRAME_CLOCK_READ] & POD_ANSWER_LINES;
-    return (uint8_t)(low | high << 4);
+    return frame_byte(answers[FRAME_CLOCK_READ - 1], answers[FRAME_CLOCK_READ]);
 }
 
 static uint8_t lay_read(uint32_t address)

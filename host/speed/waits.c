@@ -32,11 +32,13 @@ static const struct wait {
     bool scaled;
 } waits[] = {
     { "program, 10 µs", BEGUN_PROGRAM, MICROSECOND * 10, { 10, 3906, 30 }, false },
-    { "program, 200 µs", BEGUN_PROGRAM, MICROSECOND * 200, { 200, 3906, 30 }, false },
-    { "suspend of an erase, pause 30 µs", BEGUN_SUSPEND, MICROSECOND * 30, { 10, 3906, 30 }, false },
+    { "program, 200 µs", BEGUN_PROGRAM, MICROSECOND * POD_PROGRAM_MOST, { POD_PROGRAM_MOST, 3906, 30 }, false },
+    { "suspend of an erase, pause 30 µs", BEGUN_SUSPEND, MICROSECOND * POD_PAUSE_MOST, { 10, 3906, POD_PAUSE_MOST },
+      false },
     { "erase, slices of 1 µs", BEGUN_ERASE, POD_SLICES * MICROSECOND * 1, { 10, 1, 30 }, false },
     { "erase, slices of 100 µs", BEGUN_ERASE, POD_SLICES * MICROSECOND * 100, { 10, 100, 30 }, false },
-    { "erase, slices of 39,062 µs", BEGUN_ERASE, POD_SLICES * MICROSECOND * 39062, { 10, 39062, 30 }, true },
+    { "erase, slices of 39,062 µs", BEGUN_ERASE, POD_SLICES * MICROSECOND * POD_SLICE_MOST, { 10, POD_SLICE_MOST, 30 },
+      true },
 };
 enum { WAITS = sizeof waits / sizeof waits[0] };
 

@@ -86,7 +86,7 @@ uint32_t rig_read_over(uint16_t idle, uint32_t address)
     rig_play_frame(&frame, idle, 1, FRAME_CLOCK_READ - 1);
     const uint32_t low = rig_clock(frame_sample(&frame, FRAME_CLOCK_READ, idle));
     const uint32_t high = rig_clock(frame_sample(&frame, FRAME_CLOCK_READ + 1, idle));
-    frame.byte = (uint8_t)((low & POD_ANSWER_LINES) | (high & POD_ANSWER_LINES) << 4);
+    frame.byte = frame_byte(low, high);
     expect(frame_answer(&frame, FRAME_CLOCK_READ), low, "answer on clock 16 of a read");
     expect(frame_answer(&frame, FRAME_CLOCK_READ + 1), high, "answer on clock 17 of a read");
     rig_play_frame(&frame, idle, FRAME_CLOCK_READ + 2, FRAME_READ_CLOCKS);
