@@ -102,7 +102,7 @@ $(BUILD)/poke: $(call objects,bay/test/poke.c)   # a client for the tests of the
 $(BUILD)/fuzz: $(call objects,fuzz/*.c) $(filter-out %/main.o,$(call objects,bay/*.c))
 
 $(BUILD)/bay: LINK := $(HARDEN_LINK)
-FAULTY := open write fsync fchmod ftruncate link rename unlink flock accept sigaction
+FAULTY := open write fsync fchmod fchown link rename unlink flock lstat poll accept sigaction malloc
 $(BUILD)/bay_faulty: LINK := $(addprefix -Wl$(comma)--wrap=,$(FAULTY))
 $(call objects,bay/*.c bus/*.c): CFLAGS += $(HARDEN)
 

@@ -43,11 +43,15 @@ const char *beside_find(struct beside *beside, const char *path)
     return why == NULL && !name_files(beside) ? strerror(ENAMETOOLONG) : why;
 }
 
-static bool is_same(int file, const char *path)
+/* Gives 0 where the name still leads to the file, EWOULDBLOCK where it does not, or the errno. */
+static int check_name(int file, const char *path)
 {
     struct stat ours;
     struct stat there;
-    return fstat(file, &ours) == 0 && lstat(path, &there) == 0 && same_inode(&ours, &there);
+    if (fstat(file, &ours) != 0 || lstat(path, &there) != 0) {
+        return errno == ENOENT ? EWOULDBLOCK : errno;
+    }
+    return same_inode(&ours, &there) ? 0 : EWOULDBLOCK;
 }
 
 static int take_lock(struct beside *beside)
@@ -57,6 +61,9 @@ static int take_lock(struct beside *beside)
         int file = open(beside->lock, O_RDWR | O_CREAT | flags, 0666);
         if (file < 0 && errno == EACCES) {
             file = open(beside->lock, O_RDONLY | flags); /* someone else's */
+            if (file < 0 && errno == ENOENT) {
+                continue; /* and removed since */
+            }
         }
         if (file < 0) {
             return errno;
@@ -67,12 +74,16 @@ static int take_lock(struct beside *beside)
             return EWOULDBLOCK;
         }
         /* whoever had it before may have removed the name in between */
-        if (is_same(file, beside->lock)) {
+        int error = check_name(file, beside->lock);
+        if (error == 0) {
             beside->lock_file = file;
             beside->locked = 1;
             return 0;
         }
         (void)close(file);
+        if (error != EWOULDBLOCK) {
+            return error;
+        }
     }
     return EWOULDBLOCK;
 }
@@ -82,11 +93,12 @@ static int clear(const char *path)
     return unlink(path) == 0 || errno == ENOENT ? 0 : errno;
 }
 
-int beside_make(struct beside *beside)
+int beside_make(struct beside *beside, const struct beside *claim)
 {
     struct held held;
     signals_hold(&held);
-    int error = take_lock(beside);
+    bool lent = claim->locked && check_name(claim->lock_file, beside->lock) == 0;
+    int error = lent ? 0 : take_lock(beside);
     if (error == 0) {
         error = clear(beside->old);
     }
@@ -102,19 +114,50 @@ int beside_make(struct beside *beside)
     return error;
 }
 
-/* The mode of the file that is to be replaced, and then to disk. */
-static int finish(const struct beside *beside, int file)
+static bool is_unknown(int error)
 {
-    if (beside->target.there && fchmod(file, beside->target.about.st_mode & 0777) != 0) {
+    return error == EPERM || error == EOPNOTSUPP || error == ENOSYS;
+}
+
+/* Gives a file the owner, the group and the mode of the one that is to be replaced. */
+static int dress(const struct beside *beside, int file)
+{
+    const struct stat *as = &beside->target.about;
+    struct stat now;
+    if (!beside->target.there) {
+        return 0;
+    }
+    if (fstat(file, &now) != 0) {
         return errno;
     }
-    return fsync(file) == 0 ? 0 : errno;
+    if ((now.st_gid != as->st_gid && fchown(file, (uid_t)-1, as->st_gid) != 0) ||
+        (now.st_uid != as->st_uid && fchown(file, as->st_uid, (gid_t)-1) != 0)) {
+        /* not everybody may give files away */
+    }
+    if ((now.st_mode & 0777) == (as->st_mode & 0777) || fchmod(file, as->st_mode & 0777) == 0 || is_unknown(errno)) {
+        return 0;
+    }
+    return errno;
+}
+
+int beside_dress(const struct beside *beside)
+{
+    return dress(beside, beside->file);
+}
+
+static int to_disk(int file)
+{
+    int done = 0;
+    do {
+        done = fsync(file);
+    } while (done != 0 && errno == EINTR);
+    return done == 0 ? 0 : errno;
 }
 
 int beside_fill(const struct beside *beside, const void *at, size_t length)
 {
     int error = write_all(beside->file, at, length);
-    return error == 0 ? finish(beside, beside->file) : error;
+    return error == 0 ? to_disk(beside->file) : error;
 }
 
 static int copy_old(const struct beside *beside, int to)
@@ -122,7 +165,7 @@ static int copy_old(const struct beside *beside, int to)
     uint8_t part[16384];
     ssize_t got = 0;
     int from = open(beside->target.path, O_RDONLY | O_CLOEXEC);
-    int error = from < 0 ? errno : 0;
+    int error = from < 0 ? errno : dress(beside, to);
     while (error == 0 && (got = read(from, part, sizeof part)) != 0) {
         if (got > 0) {
             error = write_all(to, part, (size_t)got);
@@ -133,12 +176,7 @@ static int copy_old(const struct beside *beside, int to)
     if (from >= 0) {
         (void)close(from);
     }
-    return error == 0 ? finish(beside, to) : error;
-}
-
-static bool knows_no_links(int error)
-{
-    return error == EPERM || error == EOPNOTSUPP || error == ENOSYS || error == EMLINK;
+    return error == 0 ? to_disk(to) : error;
 }
 
 int beside_keep(struct beside *beside)
@@ -147,7 +185,7 @@ int beside_keep(struct beside *beside)
     struct held held;
     signals_hold(&held);
     int error = link(beside->target.path, beside->old) == 0 ? 0 : errno;
-    if (knows_no_links(error)) {
+    if (is_unknown(error) || error == EMLINK) {
         copy = open(beside->old, O_WRONLY | O_CREAT | O_EXCL | O_CLOEXEC, 0600);
         error = copy >= 0 ? 0 : errno;
     }
@@ -162,8 +200,9 @@ int beside_keep(struct beside *beside)
 
 int beside_place(struct beside *beside)
 {
-    if (!is_same(beside->file, beside->draft)) {
-        return EWOULDBLOCK;
+    int error = check_name(beside->file, beside->draft);
+    if (error != 0) {
+        return error;
     }
     if (rename(beside->draft, beside->target.path) != 0) {
         return errno;
@@ -185,22 +224,19 @@ int beside_put_back(struct beside *beside)
 
 int beside_sync(const struct beside *beside)
 {
-    int error = 0;
     int folder = open(target_folder(&beside->target).text, O_RDONLY | O_CLOEXEC);
     if (folder < 0) {
         return errno;
     }
-    if (fsync(folder) != 0 && errno != EINVAL && errno != EOPNOTSUPP) {
-        error = errno;
-    }
+    int error = to_disk(folder);
     (void)close(folder);
-    return error;
+    return error == EINVAL || error == EOPNOTSUPP ? 0 : error;
 }
 
-void beside_drop(struct beside *beside)
+void beside_clear(struct beside *beside)
 {
     if (beside->written) {
-        if (is_same(beside->file, beside->draft)) {
+        if (check_name(beside->file, beside->draft) == 0) {
             (void)unlink(beside->draft);
         }
         (void)close(beside->file);
@@ -208,13 +244,20 @@ void beside_drop(struct beside *beside)
     if (beside->kept) {
         (void)unlink(beside->old);
     }
-    /* the name goes before the lock does, so that nobody holds a lock without a name for long */
-    if (beside->locked) {
-        (void)unlink(beside->lock);
-        (void)close(beside->lock_file);
-    }
     beside->written = 0;
     beside->kept = 0;
     beside->placed = 0;
+}
+
+void beside_drop(struct beside *beside)
+{
+    beside_clear(beside);
+    /* the name goes before the lock does, so that nobody holds a lock without a name for long */
+    if (beside->locked) {
+        if (check_name(beside->lock_file, beside->lock) == 0) {
+            (void)unlink(beside->lock);
+        }
+        (void)close(beside->lock_file);
+    }
     beside->locked = 0;
 }

@@ -4,14 +4,13 @@
 #include "bay/beside.h"
 #include "bay/files.h"
 #include "bay/signals.h"
+#include "bay/text.h"
 #include "bay/trouble.h"
 
 #include <errno.h>
-#include <stdio.h>
 #include <string.h>
-#include <unistd.h>
 
-enum { DRAFTS = 4, LIST_ROOM = 1024 };
+enum { DRAFTS = 4 };
 
 /* said: the target's name as it was given. */
 struct draft {
@@ -23,6 +22,9 @@ struct draft {
 static struct draft drafts[DRAFTS];
 static size_t draft_count;
 static struct signals signals;
+
+/* Has the lock of the file that was claimed. */
+static struct beside claim;
 
 static int not_made(const char *path, const char *found)
 {
@@ -37,9 +39,18 @@ static int busy(const char *path)
 {
     return trouble(TROUBLE_CREATE, "%s cannot be written; nothing was changed\n"
                                    "  expected  one bay at a time that writes this file\n"
-                                   "  found     another bay is writing this file\n"
-                                   "  do        wait until it is done, and run again",
+                                   "  found     another bay is writing this file, or serves it\n"
+                                   "  do        wait until it is done, or end the server, and run again",
                    path);
+}
+
+static int not_dressed(const char *path, int error)
+{
+    return trouble(TROUBLE_OUTPUT, "%s cannot be replaced by a file of the same mode; nothing was changed\n"
+                                   "  expected  a disk that lets a new file have the mode of the old one\n"
+                                   "  found     %s\n"
+                                   "  do        look after the disk, or choose another place, and run again",
+                   path, strerror(error));
 }
 
 static int not_kept(const char *path, int error)
@@ -61,43 +72,48 @@ static int not_placed(const char *path, int error)
 }
 
 /* The files that are new, or those that are as before; tells_old: each with the place of its old one. */
-static void list_files(char *list, bool is_new, bool tells_old)
+static struct text list_files(bool is_new, bool tells_old)
 {
-    size_t length = 0;
-    list[0] = '\0';
+    struct text list = { NULL, 0, 0 };
+    text_add(&list, "%s", "");
     for (size_t i = 0; i < draft_count; i++) {
         const struct beside *beside = &drafts[i].beside;
-        if ((beside->placed != 0) == is_new && length < LIST_ROOM) {
-            bool tells = tells_old && beside->target.there;
-            int more = snprintf(list + length, LIST_ROOM - length, "%s%s%s%s%s", length > 0 ? ", " : "", drafts[i].said,
-                                tells ? " (the old one is " : "", tells ? beside->old : "", tells ? ")" : "");
-            length += more > 0 ? (size_t)more : 0;
+        if ((beside->placed != 0) != is_new) {
+            continue;
+        }
+        text_add(&list, "%s%s", list.length > 0 ? ", " : "", drafts[i].said);
+        if (tells_old && beside->target.there) {
+            text_add(&list, " (the old one is beside it as %s)", beside->old + beside->target.folder);
         }
     }
+    return list;
 }
 
 static int not_synced(int error)
 {
-    char now_new[LIST_ROOM];
-    list_files(now_new, true, false);
-    return trouble(TROUBLE_OUTPUT, "a folder could not be brought to disk\n"
-                                   "  expected  a folder that outlasts a power cut\n"
-                                   "  found     %s; new: %s, but a power cut may bring the old back\n"
-                                   "  do        look after the disk, and run again",
-                   strerror(error), now_new);
+    struct text now_new = list_files(true, false);
+    int status = trouble(TROUBLE_OUTPUT, "a folder could not be brought to disk\n"
+                                         "  expected  a folder that outlasts a power cut\n"
+                                         "  found     %s; new: %s, but a power cut may bring the old back\n"
+                                         "  do        look after the disk, and run again",
+                         strerror(error), now_new.bytes);
+    text_free(&now_new);
+    return status;
 }
 
 static int torn(const char *path, int error, int back)
 {
-    char now_new[LIST_ROOM];
-    char as_before[LIST_ROOM];
-    list_files(now_new, true, true);
-    list_files(as_before, false, false);
-    return trouble(TROUBLE_OUTPUT, "%s could not be put in place, and what was in place already could not be put back\n"
-                                   "  expected  a folder in which a file may be renamed\n"
-                                   "  found     %s, then %s; new: %s; as before: %s\n"
-                                   "  do        take what you need of the old, look after the disk, and run again",
-                   path, strerror(error), strerror(back), now_new, as_before);
+    struct text now_new = list_files(true, true);
+    struct text as_before = list_files(false, false);
+    int status =
+        trouble(TROUBLE_OUTPUT, "%s could not be put in place, and what was in place already could not be put back\n"
+                                "  expected  a folder in which a file may be renamed\n"
+                                "  found     %s, then %s; new: %s; as before: %s\n"
+                                "  do        take what you need of the old, look after the disk, and run again",
+                path, strerror(error), strerror(back), now_new.bytes, as_before.bytes);
+    text_free(&now_new);
+    text_free(&as_before);
+    return status;
 }
 
 static void drop_all(void)
@@ -137,19 +153,24 @@ static int told(const char *path, int error)
     return error == 0 ? 0 : not_made(path, strerror(error));
 }
 
-int drafts_try(const char *path)
+int drafts_claim(const char *path)
 {
-    struct beside *beside = &drafts[0].beside;
-    const char *why = beside_find(beside, path);
+    const char *why = beside_find(&claim, path);
     if (why != NULL) {
         return not_made(path, why);
     }
-    struct held held;
-    signals_hold(&held);
-    int error = beside_make(beside);
-    drop_all();
-    signals_let(&held);
+    int error = beside_make(&claim, &claim);
+    if (error == 0) {
+        beside_clear(&claim);
+    } else {
+        beside_drop(&claim);
+    }
     return told(path, error);
+}
+
+void drafts_release(void)
+{
+    beside_drop(&claim);
 }
 
 int drafts_write(const char *path, const void *at, size_t length)
@@ -163,9 +184,13 @@ int drafts_write(const char *path, const void *at, size_t length)
     if (why != NULL) {
         return not_made(path, why);
     }
-    int error = beside_make(&draft->beside);
+    int error = beside_make(&draft->beside, &claim);
     if (error != 0) {
         return told(path, error);
+    }
+    error = beside_dress(&draft->beside);
+    if (error != 0) {
+        return not_dressed(path, error);
     }
     error = beside_fill(&draft->beside, at, length);
     return error == 0 ? 0 : not_written(path, error);

@@ -20,7 +20,9 @@ int drafts_keep(void);
 /* Puts all drafts in place. Where one cannot be, those before it are put back. */
 int drafts_place(void);
 
-/* Makes a draft and removes it again, outside of a round. */
-int drafts_try(const char *path);
+/* Outside of a round: sees that a draft can be made, and keeps all other bays from writing this file until it is
+ * released. Whoever claims a file lets no signal end it before the release. */
+int drafts_claim(const char *path);
+void drafts_release(void);
 
 #endif

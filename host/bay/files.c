@@ -8,6 +8,7 @@
 
 #include <errno.h>
 #include <fcntl.h>
+#include <poll.h>
 #include <stdlib.h>
 #include <string.h>
 #include <sys/stat.h>
@@ -21,7 +22,7 @@ bool is_standard(const char *path)
 bool file_exists(const char *path)
 {
     struct stat about;
-    return stat(path, &about) == 0;
+    return lstat(path, &about) == 0 || errno != ENOENT;
 }
 
 static int unreadable(const char *path, int error)
@@ -73,9 +74,10 @@ void bytes_free(struct bytes *bytes)
 int write_all(int file, const void *at, size_t length)
 {
     const uint8_t *from = at;
+    struct pollfd out = { .fd = file, .events = POLLOUT };
     while (length > 0) {
         ssize_t done = write(file, from, length);
-        if (done < 0 && errno == EINTR) {
+        if (done < 0 && (errno == EINTR || (errno == EAGAIN && poll(&out, 1, -1) >= 0))) {
             continue;
         }
         if (done <= 0) {
@@ -138,11 +140,6 @@ int outputs_apart(const struct named *outputs, size_t count)
         }
     }
     return 0;
-}
-
-int can_deliver(const char *path)
-{
-    return drafts_try(path);
 }
 
 static int write_standard(int file, const struct output *output)

@@ -18,6 +18,8 @@ int file_read(const char *path, size_t most, struct bytes *out);
 void bytes_free(struct bytes *bytes);
 
 bool is_standard(const char *path);
+
+/* Whether something has this name. What cannot be looked at counts as there, so that whoever reads it tells why. */
 bool file_exists(const char *path);
 
 /* One thing that a command leaves behind. A null path is left out. A report goes to the standard output, or to the
@@ -38,9 +40,6 @@ struct named {
 /* Gives 0 where no two of the outputs, and none of them and the standard output, lead to the same file; else a status
  * after a message. */
 int outputs_apart(const struct named *outputs, size_t count);
-
-/* Whether a file could be made there, before work is done that would be lost. Gives 0 or a status after a message. */
-int can_deliver(const char *path);
 
 /* Leaves all outputs or none: every file is written beside its target and brought to disk, then the standard output is
  * written, and only then are the targets replaced. Where one cannot be, those before it are put back. A signal in

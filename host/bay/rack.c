@@ -58,31 +58,37 @@ static void on_signal(int number)
 
 struct name {
     char text[PATH_MAX];
+    bool there;
 };
 
-static struct name file_name(const char *folder, unsigned bay, const char *ending)
+/* The longest name of a file in a folder, which is the track's. */
+static const char harness_track[] = "/harness.track";
+
+/* A file of a bay, or the track where the bay is 0. The folder's name leaves room, as check_folder has seen to. */
+static struct name file_in(const char *folder, unsigned bay, const char *ending)
 {
     struct name name;
-    int length = snprintf(name.text, sizeof name.text, "%s/bay%02u.%s", folder, bay, ending);
-    if (length < 0 || (size_t)length >= sizeof name.text) {
-        name.text[0] = '\0';
-    }
+    int length = bay == 0 ? snprintf(name.text, sizeof name.text, "%s%s", folder, harness_track)
+                          : snprintf(name.text, sizeof name.text, "%s/bay%02u.%s", folder, bay, ending);
+    name.there = length > 0 && file_exists(name.text);
     return name;
 }
 
+/* From here to the end of the bay's process nothing interrupts it, so that its outcome says what became of the file. */
 static int save_bay(const struct rack *rack, unsigned number, const struct load *load)
 {
+    struct held held;
     if (rack->save == NULL) {
         return 0;
     }
-    struct name name = file_name(rack->save, number, "img");
+    signals_hold(&held);
+    struct name name = file_in(rack->save, number, "img");
     return deliver(&(struct output){ .path = name.text, .at = load->after, .length = load->before.length }, 1);
 }
 
 static bool is_empty(const struct rack *rack, unsigned number)
 {
-    return !file_exists(file_name(rack->folder, number, "img").text) &&
-           !file_exists(file_name(rack->folder, number, "stream").text);
+    return !file_in(rack->folder, number, "img").there && !file_in(rack->folder, number, "stream").there;
 }
 
 /* Gives 0 where each bay has a file of its own to be saved to. */
@@ -94,7 +100,7 @@ static int check_saves(const struct rack *rack)
     for (unsigned i = 0; i < BAYS && rack->save != NULL; i++) {
         int length = snprintf(bays[i], sizeof bays[i], "bay %u", i + 1);
         if (length > 0 && !is_empty(rack, i + 1)) {
-            names[i] = file_name(rack->save, i + 1, "img");
+            names[i] = file_in(rack->save, i + 1, "img");
             outputs[i] = (struct named){ bays[i], names[i].text };
         }
     }
@@ -104,12 +110,12 @@ static int check_saves(const struct rack *rack)
 /* One bay, from its files to its outcome. */
 static void run_bay(const struct rack *rack, unsigned number, struct outcome *out)
 {
-    struct name image = file_name(rack->folder, number, "img");
-    struct name stream = file_name(rack->folder, number, "stream");
-    struct name sheet = file_name(rack->folder, number, "sheet");
+    struct name image = file_in(rack->folder, number, "img");
+    struct name stream = file_in(rack->folder, number, "stream");
+    struct name sheet = file_in(rack->folder, number, "sheet");
     struct load load = { .image = image.text, .stream = stream.text };
-    struct settings_options from = { .sheet = file_exists(sheet.text) ? sheet.text : NULL };
-    out->empty = is_empty(rack, number);
+    struct settings_options from = { .sheet = sheet.there ? sheet.text : NULL };
+    out->empty = !image.there && !stream.there;
     if (out->empty) {
         return;
     }
@@ -135,10 +141,11 @@ static _Noreturn void bay_process(const struct rack *rack, struct bay *bay, cons
     trouble_speaker(length > 0 ? speaker : "bay rack");
     trouble_into(outcome->words, sizeof outcome->words);
     signals_give_back(&signals);
+    (void)signal(SIGALRM, SIG_DFL); /* it may have been ignored from the beginning, and is the bay's clock */
     signals_let(held);
     (void)alarm(rack->seconds);
     run_bay(rack, bay->number, outcome);
-    _exit(write(bay->pipe, outcome, sizeof *outcome) == (ssize_t)sizeof *outcome ? 0 : 1);
+    _exit(write(bay->pipe, outcome, sizeof *outcome) == (ssize_t)sizeof *outcome ? 0 : TROUBLE_SOFTWARE);
 }
 
 static int no_process(void)
@@ -187,14 +194,15 @@ static void collect(struct bay *bay)
         return;
     }
     memset(&bay->outcome, 0, sizeof bay->outcome);
-    bay->outcome.status = TROUBLE_SOFTWARE;
+    bool told = WIFEXITED(how) && WEXITSTATUS(how) >= TROUBLE_USAGE;
+    bay->outcome.status = told ? WEXITSTATUS(how) : TROUBLE_SOFTWARE;
     int length = snprintf(bay->outcome.words, sizeof bay->outcome.words,
                           "bay rack: bay %u ended before it was done\n"
                           "  expected  an outcome in good time\n"
-                          "  found     %s, signal %d\n"
+                          "  found     %s, %s %d\n"
                           "  do        look at this bay's files; the other bays are not touched by it\n",
                           bay->number, WIFSIGNALED(how) && WTERMSIG(how) == SIGALRM ? "its time over" : "none",
-                          WIFSIGNALED(how) ? WTERMSIG(how) : 0);
+                          WIFSIGNALED(how) ? "signal" : "status", WIFSIGNALED(how) ? WTERMSIG(how) : WEXITSTATUS(how));
     if (length < 0) {
         bay->outcome.words[0] = '\0';
     }
@@ -210,8 +218,8 @@ static void tell_progress(const struct bay *bay, unsigned home)
     } else {
         length = snprintf(line, sizeof line, "bay %u is home, %u of %d\n", bay->number, home, BAYS);
     }
-    if (length > 0 && write(STDERR_FILENO, line, (size_t)length) < 0) {
-        return; /* progress is not worth an error */
+    if (length > 0) {
+        tell(STDERR_FILENO, line, (size_t)length);
     }
 }
 
@@ -224,11 +232,13 @@ static void wait_for_bays(struct bay *bays)
         for (unsigned i = 0; i < BAYS; i++) {
             ready[i] = (struct pollfd){ .fd = bays[i].done ? -1 : bays[i].pipe, .events = POLLIN };
         }
-        if (poll(ready, BAYS, 200) <= 0) {
-            continue; /* a signal, which ended_by tells, or nothing yet */
+        int some = poll(ready, BAYS, 200);
+        if (some == 0 || (some < 0 && errno == EINTR)) {
+            continue; /* nothing yet, or a signal, which ended_by tells */
         }
         for (unsigned i = 0; i < BAYS; i++) {
-            if (!bays[i].done && ready[i].revents != 0) {
+            /* a system that does not let the rack wait for any has it wait for each in turn */
+            if (!bays[i].done && (some < 0 || ready[i].revents != 0)) {
                 collect(&bays[i]);
                 tell_progress(&bays[i], ++home);
             }
@@ -283,25 +293,26 @@ static int tell_rack(struct text *text, const struct bay *bays)
 static void tell_troubles(const struct bay *bays)
 {
     for (unsigned i = 0; i < BAYS; i++) {
-        const char *words = bays[i].outcome.words;
-        if (bays[i].outcome.status != 0 && write(STDERR_FILENO, words, strlen(words)) < 0) {
-            return;
-        }
+        const struct outcome *outcome = &bays[i].outcome;
+        tell(STDERR_FILENO, outcome->words, outcome->status != 0 ? strlen(outcome->words) : 0);
     }
 }
 
 static int check_folder(const char *path)
 {
     struct stat about;
-    bool there = stat(path, &about) == 0;
-    if (there && S_ISDIR(about.st_mode)) {
+    int error = stat(path, &about) == 0 ? 0 : errno;
+    if (error == 0 && strlen(path) + sizeof harness_track > PATH_MAX) {
+        error = ENAMETOOLONG;
+    }
+    if (error == 0 && S_ISDIR(about.st_mode)) {
         return 0;
     }
     return trouble(TROUBLE_NO_INPUT, "%s is no folder\n"
                                      "  expected  a folder that is there\n"
                                      "  found     %s\n"
                                      "  do        make it, or name another",
-                   path, there ? "something that is no folder" : strerror(errno));
+                   path, error == 0 ? "something that is no folder" : strerror(error));
 }
 
 static int run_rack(const struct rack *rack)
@@ -359,10 +370,9 @@ int command_rack(int count, char **words)
         status = check_saves(&rack);
     }
     if (status == 0) {
-        char usual[PATH_MAX];
-        int length = snprintf(usual, sizeof usual, "%s/harness.track", rack.folder);
-        if (harness == NULL && length > 0 && (size_t)length < sizeof usual && file_exists(usual)) {
-            harness = usual;
+        struct name usual = file_in(rack.folder, 0, NULL);
+        if (harness == NULL && usual.there) {
+            harness = usual.text;
         }
         status = harness == NULL ? 0 : track_read(harness, &rack.track);
     }

@@ -300,7 +300,6 @@ static bool serve_one(struct serprog *s)
 void serprog_serve(struct serprog *serprog)
 {
     serprog->length = 0;
-    serprog->requests = 0;
     while (serve_one(serprog)) {
     }
 }

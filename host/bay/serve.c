@@ -1,6 +1,7 @@
 /* bay serve: a pod as a serprog programmer on the loopback address, for flashrom and whatever drives it. */
 #include "bay/bench.h"
 #include "bay/commands.h"
+#include "bay/drafts.h"
 #include "bay/files.h"
 #include "bay/link.h"
 #include "bay/options.h"
@@ -17,8 +18,6 @@
 #include <limits.h>
 #include <netinet/in.h>
 #include <netinet/tcp.h>
-#include <poll.h>
-#include <signal.h>
 #include <stdarg.h>
 #include <stdio.h>
 #include <stdlib.h>
@@ -36,9 +35,8 @@ enum {
     MOST_REST = 1000000
 };
 
-/* In milliseconds: the first wait at a door that does not open, the longest, and all of them before the server gives
- * up; and how long a reader of the server's words may keep it. */
-enum { FIRST_WAIT = 10, LONGEST_WAIT = 1000, MOST_WAITED = 10000, READER_WAIT = 100 };
+/* In milliseconds: the first wait at a door that does not open, the longest, and all before the server gives up. */
+enum { FIRST_WAIT = 10, LONGEST_WAIT = 1000, MOST_WAITED = 10000 };
 
 /* What keeps clients out since the last one was let in. error: 0 while nothing does. */
 struct door {
@@ -88,11 +86,11 @@ static int no_server(const char *what, int error)
                    what, strerror(error));
 }
 
-/* SIGINT, SIGTERM and SIGHUP end the server after it has saved. A reader of its words that is gone does not. */
+/* SIGINT, SIGTERM and SIGHUP end the server after it has saved. */
 static int catch_signals(void)
 {
     struct signals signals;
-    if (pipe(stop_pipe) != 0 || fcntl(stop_pipe[1], F_SETFL, O_NONBLOCK) != 0 || signal(SIGPIPE, SIG_IGN) == SIG_ERR) {
+    if (pipe(stop_pipe) != 0 || fcntl(stop_pipe[1], F_SETFL, O_NONBLOCK) != 0) {
         return trouble(TROUBLE_SYSTEM, "the server cannot be ended by a signal\n"
                                        "  expected  room for a pipe\n"
                                        "  found     %s\n"
@@ -124,18 +122,16 @@ static int open_listener(struct server *server)
     return 0;
 }
 
-/* One line on the standard output, at once. A reader that is gone or does not read goes without it, and does not stop
- * the server. */
+/* One line on the standard output, at once. */
 static void __attribute__((format(printf, 1, 2))) say(const char *form, ...)
 {
     char line[PATH_MAX + 256];
-    struct pollfd out = { .fd = STDOUT_FILENO, .events = POLLOUT };
     va_list rest;
     va_start(rest, form);
     int length = vsnprintf(line, sizeof line, form, rest);
     va_end(rest);
-    if (length > 0 && poll(&out, 1, READER_WAIT) > 0 && write(STDOUT_FILENO, line, strlen(line)) < 0) {
-        return;
+    if (length > 0) {
+        tell(STDOUT_FILENO, line, strlen(line));
     }
 }
 
@@ -309,13 +305,17 @@ static int start(struct server *server)
     struct bytes image;
     int status = file_read(server->image, POD_IMAGE_BYTES, &image);
     if (status == 0) {
-        status = can_deliver(server->image);
+        status = catch_signals();
+    }
+    if (status == 0) {
+        status = drafts_claim(server->image);
+    }
+    if (status == 0) {
+        bytes_free(&image); /* another bay may have saved it before it was claimed */
+        status = file_read(server->image, POD_IMAGE_BYTES, &image);
     }
     if (status == 0) {
         status = power_up(server, &image);
-    }
-    if (status == 0) {
-        status = catch_signals();
     }
     if (status == 0) {
         server->stop = stop_pipe[0];
@@ -325,6 +325,7 @@ static int start(struct server *server)
         say("listening on 127.0.0.1:%u for %s\n", (unsigned)server->port, server->image);
         status = serve_clients(server);
     }
+    drafts_release();
     bytes_free(&image);
     free(server->saved);
     return status;
@@ -413,7 +414,7 @@ static int check(const struct asked *asked, const struct server *server)
                                       "  found     the standard input\n"
                                       "  do        name a file");
     }
-    return 0;
+    return outputs_apart(&(struct named){ "the image", server->image }, 1);
 }
 
 int command_serve(int count, char **words)

@@ -22,7 +22,11 @@ void trouble_speaker(const char *name);
 /* From now on messages are kept in the lent room and not printed. */
 void trouble_into(char *words, size_t room);
 
-/* Prints one message in a single write and gives the status back. */
+/* Writes words to a standard stream. A reader that is gone, or does not read for a tenth of a second, goes without the
+ * rest and stops nothing. */
+void tell(int place, const char *words, size_t length);
+
+/* Tells one message on the standard error and gives the status back. */
 int trouble(int status, const char *form, ...) __attribute__((format(printf, 2, 3)));
 
 #endif

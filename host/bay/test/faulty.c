@@ -10,6 +10,7 @@
  * FAULTY_COUNT names a file that gets the number of `file` calls that were made, when the program ends by itself. */
 #include <errno.h>
 #include <fcntl.h>
+#include <poll.h>
 #include <signal.h>
 #include <stdarg.h>
 #include <stdbool.h>
@@ -126,18 +127,30 @@ static void after(const char *act)
 WRAPPED(write, true, (int place, const void *from, size_t length), (place, from, length), ssize_t)
 WRAPPED(fsync, true, (int place), (place), int)
 WRAPPED(fchmod, true, (int place, mode_t mode), (place, mode), int)
-WRAPPED(ftruncate, true, (int place, off_t length), (place, length), int)
+WRAPPED(fchown, true, (int place, uid_t owner, gid_t group), (place, owner, group), int)
 WRAPPED(link, true, (const char *from, const char *to), (from, to), int)
 WRAPPED(rename, true, (const char *from, const char *to), (from, to), int)
 WRAPPED(unlink, true, (const char *path), (path), int)
 WRAPPED(accept, false, (int place, struct sockaddr *address, socklen_t *length), (place, address, length), int)
 WRAPPED(sigaction, false, (int number, const struct sigaction *now, struct sigaction *old), (number, now, old), int)
 WRAPPED(flock, false, (int place, int what), (place, what), int)
+WRAPPED(lstat, false, (const char *path, struct stat *about), (path, about), int)
+WRAPPED(poll, false, (struct pollfd *files, nfds_t count, int wait), (files, count, wait), int)
 
 /* NOLINTBEGIN(bugprone-reserved-identifier,cert-dcl37-c,cert-dcl51-cpp): the names that the linker's --wrap asks for */
 int __real_open(const char *path, int flags, ...);
 int __wrap_open(const char *path, int flags, ...);
+void *__real_malloc(size_t length);
+void *__wrap_malloc(size_t length);
 /* NOLINTEND(bugprone-reserved-identifier,cert-dcl37-c,cert-dcl51-cpp) */
+void *__wrap_malloc(size_t length)
+{
+    const char *act = met("malloc", false);
+    void *memory = fails(act) ? NULL : __real_malloc(length);
+    after(act);
+    return memory;
+}
+
 int __wrap_open(const char *path, int flags, ...)
 {
     const char *act = (flags & O_CREAT) != 0 ? met("open", true) : NULL;

@@ -169,21 +169,22 @@ for call in open:1 $(seq -f file:%g $((calls - 1))); do
 done
 same board.img new.img
 
-case_ "SIGTERM in the bays of a rack: each file is old or new, and nothing is left beside"
+# A bay that has begun to save ends its work; before that it is in trouble.
+case_ "SIGTERM in the bays of a rack: a bay in trouble changes no file, and nothing is left beside"
 mkdir tonight after
 for bay in 01 02; do
     cp board.img tonight/bay$bay.img
     cp maker.stream tonight/bay$bay.stream
 done
-for call in open:1 $(seq -f file:%g 11); do
+for call in malloc:1 open:1 open:2 unlink:1 unlink:2 fchmod:1 fsync:1 fsync:2 rename:1; do
     sweep
     cp old after/bay01.img
     rm -f after/bay02.img
     plan "term ${call%:*} ${call#*:}" rack tonight --save after >out 2>err
-    got=$?
-    { [ $got -eq 143 ] || [ $got -eq 70 ]; } || wrong "$call: status $got"
-    case $(state after/bay01.img new.img),$(state after/bay02.img new.img) in
-    none,* | *torn*) wrong "$call: $(state after/bay01.img new.img), $(state after/bay02.img new.img)" ;;
+    found="$?, $(state after/bay01.img new.img) and $(state after/bay02.img new.img)"
+    case $call,$found in
+    malloc:1,"70, old and none" | [!m]*,"0, new and new") ;;
+    *) wrong "$call: $found" ;;
     esac
     tidy
 done
@@ -191,16 +192,14 @@ done
 case_ "a signal that meets a bay of the rack before it has begun is not lost"
 # the twelfth sigaction is the first by which a bay gives back what the rack has taken
 rm -f after/*
-plan "term sigaction 12" rack tonight --save after >out 2>err
-[ $? -eq 143 ] || wrong "the rack did not end by the signal"
+gives 143 plan "term sigaction 12" rack tonight --save after
 [ -z "$(ls -A after)" ] || wrong "the bays went on: $(ls -A after)"
 
 case_ "where the second of two files cannot be put in place, the first is put back"
 before run_over
 chmod 640 answers
 inode=$(stat -c %i answers)
-save run_over plan "5 rename 2" >out 2>err
-[ $? -eq 74 ] || wrong "the status is not 74"
+gives 74 save run_over plan "5 rename 2"
 says err "save.img could not be put in place; nothing was changed"
 are run_over "old old"
 [ "$(stat -c %i,%a answers)" = "$inode,640" ] || wrong "it is not the file that it was"
@@ -213,8 +212,7 @@ tidy
 case_ "the same on a disk without hard links, where a copy is kept"
 before run_over
 chmod 640 answers
-save run_over plan "1 link 1, 5 rename 2" >out 2>err
-[ $? -eq 74 ] || wrong "the status is not 74"
+gives 74 save run_over plan "1 link 1, 5 rename 2"
 says err "nothing was changed"
 are run_over "old old"
 [ "$(stat -c %a answers)" = 640 ] || wrong "the mode has changed"
@@ -235,7 +233,7 @@ tidy
 
 case_ "where the first cannot be put back either, it is said which is new and which is old"
 with 74 run_over "5 rename 2+"
-says err "  found     Input/output error, then Input/output error; new: answers (the old one is .bay-"
+says err "  found     Input/output error, then Input/output error; new: answers (the old one is beside it as .bay-"
 says err "; as before: save.img"
 grep -q "nothing was changed" err && wrong "it says that nothing was changed"
 are run_over "new old"
@@ -245,11 +243,53 @@ with 74 run_fresh "5 rename 2, 30 unlink 5"
 says err "then Read-only file system; new: answers; as before: save.img"
 are run_fresh "new none"
 tidy
+part=$(printf '%0200d' 0)
+deep=$part/$part/$part/$part/$part/$part/$part/$part
+mkdir -p "$deep"
+cp old "$deep/answers"
+gives 74 plan "5 rename 2+" run board.img maker.stream --answers "$deep/answers" --save "$deep/save.img"
+kept=$(find . -name '.bay-*')
+says err "; new: $deep/answers (the old one is beside it as ${kept##*/}); as before: $deep/save.img"
+says err "  do        "
+rm -r "$part"
 
 case_ "no target is missing while it is put back"
 with 137 run_over "5 rename 2, kill rename 3"
 are run_over "new old"
 again run_over
+
+case_ "the mode stays; a disk that knows no modes is written all the same, and one that fails is told"
+for error in 1 95 38; do
+    rm -f answers save.img
+    with 0 run_over "$error fchmod 1+"
+    are run_over "new new"
+done
+rm answers save.img
+with 74 run_over "5 fchmod 1"
+says err "answers cannot be replaced by a file of the same mode; nothing was changed"
+are run_over "old old"
+chmod 600 answers save.img # as a draft is from the beginning
+gives 0 save run_over plan "5 fchmod 1"
+rm answers save.img
+
+case_ "owner and group stay where that is allowed"
+before run_over
+if chown 12345:12346 save.img 2>/dev/null; then
+    gives 0 save run_over bay
+    [ "$(stat -c %u:%g save.img)" = 12345:12346 ] || wrong "it belongs to $(stat -c %u:%g save.img)"
+    gives 0 save run_over plan "1 fchown 1+"
+    are run_over "new new"
+fi
+
+case_ "an interrupted sync and a lock that is gone are tried again; what cannot be looked at is no other bay's"
+with 0 run_over "4 fsync 1, 4 fsync 3, 4 fsync 5"
+with 0 sheet "13 open 1"
+are sheet new
+for look in 73:2 74:3; do
+    with "${look%:*}" sheet "5 lstat ${look#*:}"
+    says err "  found     Input/output error"
+    are sheet old
+done
 
 case_ "two bays at once: the file is one of the two, whole"
 tr Z Y <board.img >other.img
@@ -298,6 +338,14 @@ finishes() {
     exec 9<&-
     [ "$got" -eq "$1" ] || wrong "the slow bay: status $got and not $1, $(cat slow.err)"
 }
+
+case_ "a standard output that does not block is waited for"
+bay trace board.img long.stream >want
+{
+    dd oflag=nonblock </dev/null 2>/dev/null
+    bay trace board.img long.stream 2>err
+} | { sleep 0.3 && cat >out; }
+same out want
 
 case_ "a file that another bay is writing is left alone"
 slow "$BAY_BUILD/bay"

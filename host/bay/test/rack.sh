@@ -156,6 +156,65 @@ mkdir none
 gives 0 bay rack none
 says out "0 done, 0 not, 12 empty"
 
+case_ "what cannot be looked at is in trouble, and not absent"
+mkdir blind
+for bay in 01 02; do
+    cp board.img tonight/bay$bay.stream blind
+    mv blind/board.img blind/bay$bay.img
+done
+ln -s bay01.sheet blind/bay01.sheet
+ln -s nowhere blind/bay02.sheet
+ln -s bay03.img blind/bay03.img
+ln -s nowhere blind/bay04.stream
+gives 66 bay rack blind
+for bay in 1 2 3 4; do
+    says out "  $bay  trouble 66"
+    says err "bay rack: bay $bay: "
+done
+says out "0 done, 4 not, 8 empty"
+ln -s harness.track blind/harness.track
+gives 66 bay rack blind
+explains
+says err "blind/harness.track cannot be read"
+gives 66 env FAULTY="13 lstat 1+" "$BAY_BUILD/bay_faulty" rack none
+explains
+gives 66 env FAULTY="13 lstat 1+" "$BAY_BUILD/bay_faulty" rack none --harness /dev/null
+says out "0 done, 12 not, 0 empty"
+
+case_ "a folder whose name is too long"
+dots=$(printf '/.%.0s' $(seq 2042))
+gives 66 bay rack "none$dots"
+explains
+says err "  found     File name too long"
+gives 66 bay rack tonight --save "none$dots"
+explains
+[ -z "$(ls -A none)" ] || wrong "left: $(ls -A none)"
+
+case_ "nobody reads the standard error: the rack goes on"
+mkfifo unread
+true <unread &
+other=$!
+exec 9>unread
+ended $other
+bay rack tonight >out 2>&9
+got=$?
+exec 9>&-
+[ $got -eq 0 ] || wrong "status $got"
+same out want
+
+case_ "a system that does not let the rack wait: each bay is waited for in turn"
+gives 0 timeout -k 1 20 env FAULTY="22 poll 1+" "$BAY_BUILD/bay_faulty" rack tonight
+same out want
+
+case_ "a bay for which there is no memory"
+mkdir one
+cp board.img one/bay01.img
+cp tonight/bay01.stream one
+gives 71 env FAULTY="12 malloc 1+" "$BAY_BUILD/bay_faulty" rack one
+says out "  1  trouble 71"
+says err "bay rack: bay 1 ended before it was done"
+says err "  found     none, status 71"
+
 case_ "a full disk: no half-written image, and the status says so"
 mkdir little
 gives 74 full 200 rack tonight --save little
@@ -168,6 +227,8 @@ mkfifo stuck/bay02.img
 gives 70 bay rack stuck --seconds 2
 says out "11 done, 1 not, 0 empty"
 says err "bay rack: bay 2 ended before it was done"
+gives 70 timeout -k 1 20 env --ignore-signal=ALRM "$BAY_BUILD/bay" rack stuck --seconds 1
+says err "  found     its time over, signal 14"
 
 case_ "interrupted: it ends by the signal, and no bay goes on"
 mkdir cut

@@ -2,19 +2,28 @@
 # bay serve, spoken to byte by byte.
 . "$(dirname "$0")/lib.sh"
 
+# the door of a server that runs all the while stands beside
+mkdir here && cd here || exit 1
 make_image board.img
 cp board.img kept.img
+# what is left of it when 0Fh has been programmed into block 3
+{ head -c 196608 kept.img; hex 0A; tail -c 851967 kept.img; } >written.img
+
+# soon COMMAND...: waits until it holds, or the server is gone, but not for ever.
+soon() {
+    tries=0
+    until "$@" 2>/dev/null || ! kill -0 "$server" 2>/dev/null || [ $tries -ge 1200 ]; do
+        sleep 0.05
+        tries=$((tries + 1))
+    done
+}
 
 # launch COMMAND...: a server in the background; its process is in server, its port in port.
 launch() {
     rm -f log
     "$@" >log 2>err &
     server=$!
-    tries=0
-    until grep -q '^listening' log 2>/dev/null || [ $tries -ge 200 ] || ! kill -0 $server 2>/dev/null; do
-        sleep 0.05
-        tries=$((tries + 1))
-    done
+    soon grep -q '^listening' log
     port=$(sed -n 's/^listening on 127\.0\.0\.1:\([0-9]*\) .*/\1/p' log)
     [ -n "$port" ] || wrong "the server does not listen: $(cat err)"
 }
@@ -31,6 +40,12 @@ faulty() {
 # used PID: the hundredths of a second that a program has had of the processor.
 used() { awk '{ print $14 + $15 }' "/proc/$1/stat"; }
 
+# spares PID BEFORE: it has had little since.
+spares() {
+    after=$(used "$1")
+    { [ -n "$2" ] && [ -n "$after" ] && [ $((after - $2)) -le 30 ]; } || wrong "it had used '$2', and now '$after'"
+}
+
 # open_files: how many files the server has open.
 open_files() { find "/proc/$server/fd" -mindepth 1 | wc -l; }
 
@@ -44,11 +59,16 @@ answers() {
     [ "$said" = "$want " ] || wrong "$*: $said and not $want $(cat poke.err)"
 }
 
-# stop STATUS [SIGNAL]: ends the server and compares its status with the one given.
-stop() {
-    kill "-${2:-TERM}" $server
+# ends STATUS: waits for the server and compares its status with the one given.
+ends() {
     ended $server
     [ "$got" -eq "$1" ] || wrong "the server's status is $got and not $1: $(cat err)"
+}
+
+# stop STATUS [SIGNAL]: ends the server.
+stop() {
+    kill "-${2:-TERM}" $server
+    ends "$1"
 }
 
 # the client's addresses are three bytes, lowest first; block 3 is F30000, its lock B30002
@@ -78,10 +98,7 @@ answers "06 06 06 06 06 065A 06 0680" s:0B r:1 s:0C0200B300 r:1 s:0C0000F340 r:1
     s:090000F3 r:2 s:0F r:1 s:090000F3 r:2
 answers "06 06 060A" s:0C0000F3FF r:1 s:0F r:1 s:090000F3 r:2
 stop 0
-head -c 196608 kept.img >want
-hex 0A >>want
-tail -c 851967 kept.img >>want
-same board.img want
+same board.img written.img
 cp kept.img board.img
 
 case_ "several bytes written at once go to rising addresses; the buffer is bounded; begin drops what was laid by"
@@ -99,6 +116,9 @@ answers "06 06 06 0600" s:0C0200B301 r:1 s:0B r:1 s:0F r:1 s:090200B3 r:2
 } >script
 said=$(xargs "$BAY_BUILD/poke" "$port" <script | tr '\n' ' ')
 [ "$said" = "06 06 06 06 06 06 06 06 15 " ] || wrong "a full buffer: $said"
+# behind the last address the first one follows; a write of no bytes is turned away, and the line holds
+answers 065A5A0000 s:0AFEFFFF040000 r:5
+answers "15 06" s:0D0000000000F3 r:1 s:00 r:1
 stop 0
 same board.img kept.img
 
@@ -127,12 +147,6 @@ says log "the client wrote more bytes at once than it was told"
 stop 0
 same board.img kept.img
 
-case_ "behind the last address the first one follows; a write of no bytes is turned away, and the line holds"
-start board.img --rest 0
-answers 065A5A0000 s:0AFEFFFF040000 r:5
-answers "15 06" s:0D0000000000F3 r:1 s:00 r:1
-stop 0
-
 case_ "no client leaves an open file behind"
 start board.img --idle 1
 answers 06 s:00 r:1
@@ -146,13 +160,44 @@ answers 06 s:00 r:1
 [ "$(open_files)" -le "$before" ] || wrong "$(open_files) open files, and $before before"
 stop 0
 
+# patient: a client in the background that waits for its answer.
+patient() {
+    "$BAY_BUILD/poke" "$port" s:00 r:1 >first 2>&1 &
+    other=$!
+}
+
+# A server at whose door all but the first client fail, while other cases run. Its folder is away when the first client
+# is gone, so that the image can be saved at the end only.
+case_ "a server that lets one client in, and then nobody"
+mkdir ../door
+cd ../door || exit 1
+cp ../here/kept.img board.img
+faulty "24 accept 2+" "$work/door/board.img" --seconds 40 --times 1,1,1
+"$BAY_BUILD/poke" "$port" s:0C0200B300 r:1 s:0C0000F340 r:1 s:0C0000F30F r:1 s:0F r:1 w:700 >/dev/null &
+other=$!
+sleep 0.3
+mv ../door ../away
+ended $other
+soon test -s err
+mv ../away ../door
+says err "board.img cannot be written; nothing was changed"
+same board.img ../here/kept.img
+door=$server
+door_used=$(used "$door")
+door_began=$(now)
+patient
+door_client=$other
+cd ../here || exit 1
+
 case_ "a byte now and then keeps a line, until the server's time is over"
-start board.img --idle 1 --seconds 2
-poke "$port" s:0A w:700 s:00 w:700 s:00 w:700 s:F3 e >first 2>&1
-ended $server
-[ "$got" -eq 0 ] || wrong "the server's status is $got"
-says log "client 1 ends after 0 requests: "
+start board.img --idle 3 --seconds 5
+poke "$port" s:0A w:1500 s:00 w:1500 s:00 w:1500 s:F3 e >first 2>&1
+ends 0
+says log "client 1 ends after 0 requests: time is over"
 says log "the server ends: time is over"
+
+case_ "nobody can be let in: the server uses little of the processor"
+spares "$door" "$door_used"
 
 # A client that sends a file and takes all that comes, as fast as it comes.
 cat >eager <<'END'
@@ -160,8 +205,7 @@ exec 3<>"/dev/tcp/127.0.0.1/$1"
 cat "$2" >&3
 cat <&3 >/dev/null
 END
-yes "$(printf '\\012\\000\\000\\363\\000\\000\\001')" | head -n 500 | tr -d '\n' >digits
-printf %b "$(cat digits)" >requests
+printf %b "$(yes '\012\000\000\363\000\000\001' | head -n 500 | tr -d '\n')" >requests
 
 case_ "a client that asks for much and takes it as fast as it comes holds up neither a signal nor the end of the time"
 start board.img
@@ -176,8 +220,7 @@ began=$(now)
 start board.img --seconds 2
 bash eager "$port" requests 2>/dev/null &
 other=$!
-ended $server
-[ "$got" -eq 0 ] || wrong "the server's status is $got"
+ends 0
 [ $(($(now) - began)) -le 7 ] || wrong "the server of two seconds took $(($(now) - began))"
 ended $other
 same board.img kept.img
@@ -197,52 +240,25 @@ stop 0
 exec 9<>told
 dd if=/dev/zero of=told oflag=nonblock bs=4096 count=1000 2>/dev/null
 timeout -k 1 10 "$BAY_BUILD/bay" serve --port 0 --seconds 1 board.img >told 2>err || wrong "it does not end: status $?"
+# nor does a reader of its troubles: the first client's bytes cannot be saved, and the second is served all the same
+launch timeout -k 1 10 env FAULTY="5 rename 1" \
+    sh -c "exec '$BAY_BUILD/bay_faulty' serve --port 0 --clients 2 --times 1,1,1 board.img 2>told"
+answers "06 06 06 06" s:0C0200B300 r:1 s:0C0000F340 r:1 s:0C0000F30F r:1 s:0F r:1
+answers 06 s:00 r:1
+ends 0
+cp kept.img board.img
 exec 9>&-
 
 case_ "a client that asks and does not listen is ended too"
 start board.img --idle 1
 "$BAY_BUILD/poke" "$port" "s:$(yes 0A0000F3000001 | head -n 300 | tr -d '\n')" w:120000 &
 other=$!
-tries=0
-until grep -q '^client 1 ends' log || [ $tries -ge 600 ]; do
-    sleep 0.1
-    tries=$((tries + 1))
-done
+soon grep -q '^client 1 ends' log
 kill $other
 ended $other
 says log "the client was silent too long"
 answers 065A s:090000F3 r:2
 stop 0
-
-# patient: a client in the background that waits for its answer.
-patient() {
-    "$BAY_BUILD/poke" "$port" s:00 r:1 >first 2>&1 &
-    other=$!
-}
-
-# A server at whose door all but the first client fail, while other cases run. Its folder is away when the first client
-# is gone, so that the image can be saved at the end only.
-case_ "a server that lets one client in, and then nobody"
-mkdir door
-cd door || exit 1
-cp ../kept.img board.img
-faulty "24 accept 2+" "$work/door/board.img" --seconds 40 --times 1,1,1
-"$BAY_BUILD/poke" "$port" s:0C0200B300 r:1 s:0C0000F340 r:1 s:0C0000F30F r:1 s:0F r:1 w:700 >/dev/null &
-other=$!
-sleep 0.3
-mv ../door ../away
-ended $other
-tries=0
-until grep -q '^client 1 ends' log || [ $tries -ge 100 ]; do
-    sleep 0.1
-    tries=$((tries + 1))
-done
-door=$server
-door_used=$(used "$door")
-door_began=$(now)
-patient
-door_client=$other
-cd .. || exit 1
 
 case_ "a first client that cannot be let in, for lack of open files or by its own fault, does not keep others out"
 for error in 24 103; do
@@ -269,22 +285,16 @@ faulty "103 accept 1+" board.img --seconds 3
 before=$(used "$server")
 patient
 sleep 2
-[ $(($(used "$server") - before)) -le 30 ] || wrong "it used $(($(used "$server") - before)) hundredths of a second"
-ended $server
-[ "$got" -eq 0 ] || wrong "the server's status is $got"
+spares "$server" "$before"
+ends 0
 ended $other
-
-case_ "nobody can be let in: the server uses little of the processor"
-[ $(($(used "$door") - door_used)) -le 30 ] || wrong "it used $(($(used "$door") - door_used)) hundredths of a second"
-mv away door
 
 case_ "a system that does not even let the server wait: it ends and says so"
 # without open files a checked build cannot look for lost memory
 launch env ASAN_OPTIONS=detect_leaks=0 "$BAY_BUILD/bay" serve --port 0 board.img --seconds 20
 prlimit --pid "$server" --nofile=1
 patient
-ended $server
-[ "$got" -eq 71 ] || wrong "the server's status is $got and not 71"
+ends 71
 says log "the server ends: the line broke"
 says err "bay serve: no client can be let in"
 says err "  found     Invalid argument"
@@ -304,15 +314,35 @@ answers 06 s:00 r:1
 ended $other
 [ "$(tr '\n' ' ' <first)" = "06 06 " ] || wrong "the first client was told $(cat first)"
 stop 0
+turns=$(grep -oE '^client [0-9] (begins|ends)' log | tr '\n' ',')
+[ "$turns" = "client 1 begins,client 1 ends,client 2 begins,client 2 ends," ] || wrong "their turns are $turns"
+
+case_ "while a server lives, no other bay writes its image"
+printf 'read FBC0000\n' | lay >maker.stream
+ln -s board.img link.img
+start board.img --times 1,1,1
+for image in board.img link.img; do
+    gives 73 bay serve --port 0 --seconds 1 $image
+    says err "another bay is writing this file, or serves it"
+    gives 73 bay run kept.img maker.stream --save $image
+    explains
+done
+answers "06 06 06 06" s:0C0200B300 r:1 s:0C0000F340 r:1 s:0C0000F30F r:1 s:0F r:1
+stop 0
+same board.img written.img
+gives 0 bay run kept.img maker.stream --save link.img
+start board.img
+stop 137 KILL
+start board.img --once
+answers 06 s:00 r:1
+ends 0
+same board.img kept.img
+tidy
 
 case_ "a client that goes away in the middle of an erase: the part finishes, and the image is saved whole"
 start board.img --rest 0
 poke "$port" s:0C0200B300 r:1 s:0C0000F320 r:1 s:0C0000F3D0 r:1 s:0F r:1 >/dev/null
-tries=0
-until grep -q '^saved' log || [ $tries -ge 600 ]; do
-    sleep 0.1
-    tries=$((tries + 1))
-done
+soon grep -q '^saved' log
 { head -c 196608 kept.img; head -c 65536 /dev/zero | tr '\0' '\377'; tail -c 786432 kept.img; } >erased.img
 same board.img erased.img
 says log "changed blocks: 3"
@@ -333,72 +363,44 @@ same board.img kept.img
 case_ "top block lock low, and a voltage below lockout"
 start board.img --tbl low --once
 answers "06 06 06 06 0682" s:0C0200BF00 r:1 s:0C0000FF20 r:1 s:0C0000FFD0 r:1 s:0F r:1 s:090000FF r:2
-ended $server
-[ "$got" -eq 0 ] || wrong "the server's status is $got"
+ends 0
 start board.img --voltage 0 --once
 answers "06 06 06 06 0688" s:0C0200B300 r:1 s:0C0000F320 r:1 s:0C0000F3D0 r:1 s:0F r:1 s:090000F3 r:2
 ended $server
 same board.img kept.img
 
-case_ "bounded in count and in time"
+case_ "bounded in count"
 start board.img --clients 2
 answers 06 s:00 r:1
 answers 06 s:00 r:1
-ended $server
-[ "$got" -eq 0 ] || wrong "after its clients the server's status is $got"
+ends 0
 says log "the last client is served"
-start board.img --seconds 1
-ended $server
-[ "$got" -eq 0 ] || wrong "after its time the server's status is $got"
-says log "time is over"
-start board.img --seconds 2
-poke "$port" w:1 s:00 r:1 w:3000 s:00 r:1 >first 2>/dev/null
-ended $server
-[ "$(cat first)" = 06 ] || wrong "a client outlived the server's time"
 
-case_ "only the loopback address"
+case_ "only the loopback address, and no port that is taken"
 start board.img
 address=$(printf '0100007F:%04X' "$port")
 grep -q " $address 00000000:0000 0A" /proc/net/tcp || wrong "no listener on 127.0.0.1"
 hex_port=$(printf '%04X' "$port")
 [ "$(grep -c ":$hex_port 00000000:0000 0A" /proc/net/tcp)" -eq 1 ] || wrong "more than one listener"
 [ "$(grep -c ":$hex_port " /proc/net/tcp6 2>/dev/null)" -eq 0 ] || wrong "a listener on an IPv6 address"
-
-case_ "a port that is taken, or is none"
-gives 69 bay serve --port "$port" board.img
+gives 69 bay serve --port "$port" kept.img
 explains
 stop 0
-gives 64 bay serve board.img
-explains
-gives 64 bay serve --port 65536 board.img
-explains
-gives 64 bay serve --port http board.img
-explains
 
 case_ "SIGINT ends the server too, in the middle of a client, and what was written is saved"
 launch env --default-signal=INT "$BAY_BUILD/bay" serve --port 0 board.img --times 1,1,1
 "$BAY_BUILD/poke" "$port" s:0C0200B300 r:1 s:0C0000F340 r:1 s:0C0000F30F r:1 s:0F r:1 e >first 2>&1 &
 other=$!
-tries=0
-until [ "$(grep -c 06 first)" -ge 4 ] || [ $tries -ge 200 ]; do
-    sleep 0.05
-    tries=$((tries + 1))
-done
+soon grep -qPz '(06\n){4}' first
 stop 0 INT
 ended $other
 says first end
-{ head -c 196608 kept.img; hex 0A; tail -c 851967 kept.img; } >want
-same board.img want
+same board.img written.img
 says log "the server is to end"
 cp kept.img board.img
 
 case_ "a full disk: the image file stays as it was, and the status says so"
-cp kept.img board.img
-cat >serve_full <<'END'
-ulimit -f 200
-exec "$BAY_BUILD/bay" serve --port 0 board.img --times 1,1,1
-END
-launch sh serve_full
+launch sh -c "ulimit -f 200 && exec '$BAY_BUILD/bay' serve --port 0 board.img --times 1,1,1"
 answers "06 06 06 06" s:0C0200B300 r:1 s:0C0000F340 r:1 s:0C0000F30F r:1 s:0F r:1
 stop 74
 says err "  expected  "
@@ -407,35 +409,42 @@ tidy
 
 case_ "what it cannot serve"
 head -c 1048575 kept.img >short.img
-gives 2 bay serve --port 0 short.img
-explains
-gives 66 bay serve --port 0 missing.img
-explains
-gives 7 bay serve --port 0 board.img --voltage 3
-explains
-gives 64 bay serve --port 0 board.img --voltage 4
-gives 64 bay serve --port 0 board.img --wp down
-explains
-gives 64 bay serve --port 0 -
-explains
-gives 3 bay serve --port 0 board.img --straps 16
-gives 4 bay serve --port 0 board.img --times 0,0,0
-gives 64 bay serve --port 0 board.img --clients 0
-gives 64 bay serve --port 0 board.img --idle 0
+turned_away() {
+    status=$1
+    shift
+    gives "$status" bay serve "$@"
+    explains
+}
+turned_away 64 board.img
+turned_away 64 --port 65536 board.img
+turned_away 64 --port http board.img
+turned_away 2 --port 0 short.img
+turned_away 66 --port 0 missing.img
+turned_away 66 --port 0 missing/board.img
+turned_away 7 --port 0 board.img --voltage 3
+turned_away 64 --port 0 board.img --voltage 4
+turned_away 64 --port 0 board.img --wp down
+turned_away 64 --port 0 -
+turned_away 3 --port 0 board.img --straps 16
+turned_away 4 --port 0 board.img --times 0,0,0
+turned_away 64 --port 0 board.img --clients 0
+turned_away 64 --port 0 board.img --idle 0
+gives 64 bay serve --port 0 --seconds 1 out
+says err "the image and the standard output name the same file"
+same board.img kept.img
+tidy
 
 case_ "nobody can be let in: the server gives up in time, says so, and saves what a client wrote"
 ended "$door"
 [ "$got" -eq 71 ] || wrong "the server's status is $got and not 71"
-took=$(($(stat -c %Y door/log) - door_began))
+took=$(($(stat -c %Y ../door/log) - door_began))
 { [ $took -ge 9 ] && [ $took -le 20 ]; } || wrong "it gave up after $took seconds"
-[ "$(grep -c 'trying on for' door/log)" -eq 1 ] || wrong "it did not say once that it tries on: $(cat door/log)"
-says door/log "the server ends: no client can be let in"
-says door/err "bay serve: no client can be let in"
-says door/err "  expected  room for one more open file and its buffers within 10 seconds"
-says door/err "  found     Too many open files"
-says door/err "  do        "
-{ head -c 196608 kept.img; hex 0A; tail -c 851967 kept.img; } >want
-same door/board.img want
+[ "$(grep -c 'trying on for' ../door/log)" -eq 1 ] || wrong "it did not say once that it tries on: $(cat ../door/log)"
+says ../door/log "the server ends: no client can be let in"
+says ../door/err "bay serve: no client can be let in"
+says ../door/err "  expected  room for one more open file and its buffers within 10 seconds"
+says ../door/err "  found     Too many open files"
+same ../door/board.img written.img
 ended "$door_client"
 
 finish
