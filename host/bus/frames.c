@@ -70,14 +70,14 @@ uint8_t frame_answer(const struct frame *frame, unsigned clock)
     return (frame->write ? written : read)[clock - FRAME_CLOCK_WAIT];
 }
 
-static unsigned nibble(uint32_t answer)
+static unsigned nibble_of(uint32_t answer)
 {
     return (answer & POD_ANSWER_DRIVEN) != 0 ? answer & POD_ANSWER_LINES : POD_ANSWER_LINES;
 }
 
 uint8_t frame_byte(uint32_t low, uint32_t high)
 {
-    return (uint8_t)(nibble(low) | nibble(high) << 4);
+    return (uint8_t)(nibble_of(low) | nibble_of(high) << 4);
 }
 
 size_t frame_lay(const struct frame *frame, uint16_t idle, uint16_t samples[FRAME_MOST_CLOCKS])
