@@ -35,9 +35,6 @@
 
 #ifdef __cplusplus
 extern "C" {
-#define POD_ASSERT(fact, name) static_assert(fact, name)
-#else
-#define POD_ASSERT(fact, name) _Static_assert(fact, name)
 #endif
 
 /* Lengths in bytes. The longest stream has 65,536 samples. */
@@ -236,74 +233,84 @@ uint32_t           pod_status(struct pod_device device);
 uint32_t           pod_marks(struct pod_device device);
 
 /* What program and archive have to agree on, byte by byte. */
-POD_ASSERT(sizeof(size_t) == 8, "lengths");
+#ifdef __cplusplus
+#define POD_ASSERT(fact, name) static_assert(fact, name)
+#else
+#define POD_ASSERT(fact, name) _Static_assert(fact, name)
+#endif
+#define POD_SIZE(type, bytes) POD_ASSERT(sizeof(type) == (bytes), "size of " #type)
+#define POD_OFFSET(type, member, at) POD_ASSERT(offsetof(type, member) == (at), "place of " #type "." #member)
 
-POD_ASSERT(sizeof(struct pod_times) == 6, "pod_times");
-POD_ASSERT(offsetof(struct pod_times, program) == 0, "pod_times.program");
-POD_ASSERT(offsetof(struct pod_times, slice) == 2, "pod_times.slice");
-POD_ASSERT(offsetof(struct pod_times, pause) == 4, "pod_times.pause");
+POD_SIZE(size_t, 8);
 
-POD_ASSERT(sizeof(struct pod_frame) == 8, "pod_frame");
-POD_ASSERT(offsetof(struct pod_frame, kind) == 0, "pod_frame.kind");
-POD_ASSERT(offsetof(struct pod_frame, clock) == 1, "pod_frame.clock");
-POD_ASSERT(offsetof(struct pod_frame, byte) == 2, "pod_frame.byte");
-POD_ASSERT(offsetof(struct pod_frame, address) == 4, "pod_frame.address");
+POD_SIZE(struct pod_times, 6);
+POD_OFFSET(struct pod_times, program, 0);
+POD_OFFSET(struct pod_times, slice, 2);
+POD_OFFSET(struct pod_times, pause, 4);
 
-POD_ASSERT(sizeof(struct pod_operation) == 28, "pod_operation");
-POD_ASSERT(offsetof(struct pod_operation, kind) == 0, "pod_operation.kind");
-POD_ASSERT(offsetof(struct pod_operation, state) == 1, "pod_operation.state");
-POD_ASSERT(offsetof(struct pod_operation, data) == 2, "pod_operation.data");
-POD_ASSERT(offsetof(struct pod_operation, address) == 4, "pod_operation.address");
-POD_ASSERT(offsetof(struct pod_operation, slices) == 8, "pod_operation.slices");
-POD_ASSERT(offsetof(struct pod_operation, left) == 12, "pod_operation.left");
-POD_ASSERT(offsetof(struct pod_operation, pause) == 16, "pod_operation.pause");
-POD_ASSERT(offsetof(struct pod_operation, times) == 20, "pod_operation.times");
+POD_SIZE(struct pod_frame, 8);
+POD_OFFSET(struct pod_frame, kind, 0);
+POD_OFFSET(struct pod_frame, clock, 1);
+POD_OFFSET(struct pod_frame, byte, 2);
+POD_OFFSET(struct pod_frame, address, 4);
 
-POD_ASSERT(sizeof(struct pod_controller) == 64, "pod_controller");
-POD_ASSERT(offsetof(struct pod_controller, mode) == 0, "pod_controller.mode");
-POD_ASSERT(offsetof(struct pod_controller, errors) == 1, "pod_controller.errors");
-POD_ASSERT(offsetof(struct pod_controller, setup) == 2, "pod_controller.setup");
-POD_ASSERT(offsetof(struct pod_controller, marks) == 4, "pod_controller.marks");
-POD_ASSERT(offsetof(struct pod_controller, outer) == 8, "pod_controller.outer");
-POD_ASSERT(offsetof(struct pod_controller, inner) == 36, "pod_controller.inner");
+POD_SIZE(struct pod_operation, 28);
+POD_OFFSET(struct pod_operation, kind, 0);
+POD_OFFSET(struct pod_operation, state, 1);
+POD_OFFSET(struct pod_operation, data, 2);
+POD_OFFSET(struct pod_operation, address, 4);
+POD_OFFSET(struct pod_operation, slices, 8);
+POD_OFFSET(struct pod_operation, left, 12);
+POD_OFFSET(struct pod_operation, pause, 16);
+POD_OFFSET(struct pod_operation, times, 20);
 
-POD_ASSERT(sizeof(struct pod_device) == 96, "pod_device");
-POD_ASSERT(offsetof(struct pod_device, straps) == 0, "pod_device.straps");
-POD_ASSERT(offsetof(struct pod_device, locks) == 1, "pod_device.locks");
-POD_ASSERT(offsetof(struct pod_device, times) == 18, "pod_device.times");
-POD_ASSERT(offsetof(struct pod_device, frame) == 24, "pod_device.frame");
-POD_ASSERT(offsetof(struct pod_device, controller) == 32, "pod_device.controller");
+POD_SIZE(struct pod_controller, 64);
+POD_OFFSET(struct pod_controller, mode, 0);
+POD_OFFSET(struct pod_controller, errors, 1);
+POD_OFFSET(struct pod_controller, setup, 2);
+POD_OFFSET(struct pod_controller, marks, 4);
+POD_OFFSET(struct pod_controller, outer, 8);
+POD_OFFSET(struct pod_controller, inner, 36);
 
-POD_ASSERT(sizeof(struct pod_powered) == 100, "pod_powered");
-POD_ASSERT(offsetof(struct pod_powered, number) == 0, "pod_powered.number");
-POD_ASSERT(offsetof(struct pod_powered, device) == 4, "pod_powered.device");
-POD_ASSERT(sizeof(struct pod_stepped) == 104, "pod_stepped");
-POD_ASSERT(offsetof(struct pod_stepped, number) == 0, "pod_stepped.number");
-POD_ASSERT(offsetof(struct pod_stepped, answer) == 4, "pod_stepped.answer");
-POD_ASSERT(offsetof(struct pod_stepped, device) == 8, "pod_stepped.device");
-POD_ASSERT(sizeof(struct pod_clocked) == 8, "pod_clocked");
-POD_ASSERT(offsetof(struct pod_clocked, number) == 0, "pod_clocked.number");
-POD_ASSERT(offsetof(struct pod_clocked, answer) == 4, "pod_clocked.answer");
-POD_ASSERT(sizeof(struct pod_settled) == 104, "pod_settled");
-POD_ASSERT(offsetof(struct pod_settled, number) == 0, "pod_settled.number");
-POD_ASSERT(offsetof(struct pod_settled, count) == 4, "pod_settled.count");
-POD_ASSERT(offsetof(struct pod_settled, device) == 8, "pod_settled.device");
-POD_ASSERT(sizeof(struct pod_report) == 16, "pod_report");
-POD_ASSERT(offsetof(struct pod_report, number) == 0, "pod_report.number");
-POD_ASSERT(offsetof(struct pod_report, samples) == 4, "pod_report.samples");
-POD_ASSERT(offsetof(struct pod_report, status) == 8, "pod_report.status");
-POD_ASSERT(offsetof(struct pod_report, marks) == 12, "pod_report.marks");
-POD_ASSERT(sizeof(struct pod_sheet) == 20, "pod_sheet");
-POD_ASSERT(offsetof(struct pod_sheet, number) == 0, "pod_sheet.number");
-POD_ASSERT(offsetof(struct pod_sheet, straps) == 4, "pod_sheet.straps");
-POD_ASSERT(offsetof(struct pod_sheet, program) == 8, "pod_sheet.program");
-POD_ASSERT(offsetof(struct pod_sheet, slice) == 12, "pod_sheet.slice");
-POD_ASSERT(offsetof(struct pod_sheet, pause) == 16, "pod_sheet.pause");
-POD_ASSERT(sizeof(struct pod_part) == 12, "pod_part");
-POD_ASSERT(offsetof(struct pod_part, from) == 0, "pod_part.from");
-POD_ASSERT(offsetof(struct pod_part, start) == 4, "pod_part.start");
-POD_ASSERT(offsetof(struct pod_part, length) == 8, "pod_part.length");
+POD_SIZE(struct pod_device, 96);
+POD_OFFSET(struct pod_device, straps, 0);
+POD_OFFSET(struct pod_device, locks, 1);
+POD_OFFSET(struct pod_device, times, 18);
+POD_OFFSET(struct pod_device, frame, 24);
+POD_OFFSET(struct pod_device, controller, 32);
 
+POD_SIZE(struct pod_powered, 100);
+POD_OFFSET(struct pod_powered, number, 0);
+POD_OFFSET(struct pod_powered, device, 4);
+POD_SIZE(struct pod_stepped, 104);
+POD_OFFSET(struct pod_stepped, number, 0);
+POD_OFFSET(struct pod_stepped, answer, 4);
+POD_OFFSET(struct pod_stepped, device, 8);
+POD_SIZE(struct pod_clocked, 8);
+POD_OFFSET(struct pod_clocked, number, 0);
+POD_OFFSET(struct pod_clocked, answer, 4);
+POD_SIZE(struct pod_settled, 104);
+POD_OFFSET(struct pod_settled, number, 0);
+POD_OFFSET(struct pod_settled, count, 4);
+POD_OFFSET(struct pod_settled, device, 8);
+POD_SIZE(struct pod_report, 16);
+POD_OFFSET(struct pod_report, number, 0);
+POD_OFFSET(struct pod_report, samples, 4);
+POD_OFFSET(struct pod_report, status, 8);
+POD_OFFSET(struct pod_report, marks, 12);
+POD_SIZE(struct pod_sheet, 20);
+POD_OFFSET(struct pod_sheet, number, 0);
+POD_OFFSET(struct pod_sheet, straps, 4);
+POD_OFFSET(struct pod_sheet, program, 8);
+POD_OFFSET(struct pod_sheet, slice, 12);
+POD_OFFSET(struct pod_sheet, pause, 16);
+POD_SIZE(struct pod_part, 12);
+POD_OFFSET(struct pod_part, from, 0);
+POD_OFFSET(struct pod_part, start, 4);
+POD_OFFSET(struct pod_part, length, 8);
+
+#undef POD_OFFSET
+#undef POD_SIZE
 #undef POD_ASSERT
 
 #ifdef __cplusplus

@@ -133,26 +133,21 @@ static void take_c_function(struct side *side, const char *result)
     word_want(";");
 }
 
-/* Of the assertions, those that give a struct's size or a member's offset as a number. */
-static void take_c_assertion(struct side *side)
+/* A line of POD_SIZE, or of POD_OFFSET where it has a member. */
+static void take_c_assertion(struct side *side, bool has_member)
 {
+    struct assertion found = { .member = "" };
     word_want("(");
-    const bool is_size = word_take("sizeof"), is_offset = !is_size && word_take("offsetof");
-    if ((is_size || is_offset) && word_take("(") && word_is("struct")) {
-        struct assertion found = { .member = "" };
-        take_c_type(found.record);
-        if (is_offset) {
-            word_want(",");
-            word_take_name(found.member);
-        }
-        word_want(")");
-        word_want("=");
-        word_want("=");
-        (void)word_take_number();
+    take_c_type(found.record);
+    word_want(",");
+    if (has_member) {
+        word_take_name(found.member);
         word_want(",");
-        *new_assertion(side) = found;
     }
-    words_skip_past(";");
+    (void)word_take_number();
+    word_want(")");
+    word_want(";");
+    *new_assertion(side) = found;
 }
 
 void declared_in_c(struct side *side, const char *path)
@@ -162,8 +157,10 @@ void declared_in_c(struct side *side, const char *path)
         char type[WORD_ROOM];
         if (word_take("enum")) {
             words_skip_past(";");
-        } else if (word_take("POD_ASSERT")) {
-            take_c_assertion(side);
+        } else if (word_take("POD_SIZE")) {
+            take_c_assertion(side, false);
+        } else if (word_take("POD_OFFSET")) {
+            take_c_assertion(side, true);
         } else if (word_take("extern")) { /* what C++ reads around the face */
             word_want("\"C\"");
             word_want("{");

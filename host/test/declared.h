@@ -46,7 +46,7 @@ struct side {
     struct assertion assertion[MOST_ASSERTIONS];
 };
 
-/* A header of C: struct definitions, prototypes and the lines of POD_ASSERT. */
+/* A header of C: struct definitions, prototypes and the lines of POD_SIZE and POD_OFFSET. */
 void declared_in_c(struct side *side, const char *path);
 
 /* A source of Rattle: structs marked #[repr(C)] and exported functions. */
