@@ -100,6 +100,17 @@ diff help page >difference || wrong "$(cat difference)"
 case_ "docs/bay.md has the same, in the same words"
 diff help document >difference || wrong "$(cat difference)"
 
+# What bay knows by itself, from `The program knows` to the end of the paragraph, as one line.
+what_it_knows() { tr '\n' ' ' | grep -o 'The program knows .* is asked of the proved library\.'; }
+
+case_ "page and document say alike what bay knows of the part by itself: the bus, and words"
+plain_page | what_it_knows >knows
+sed '/^## /q' "$document" | what_it_knows | diff knows - >difference || wrong "$(cat difference)"
+for word in frames registers commands clocks; do
+    says knows "$word"
+done
+grep -rqiE 'knows no rule|holds no rule' "$document" "$page" "$root/docs/DECISIONS.md" && wrong "it says that bay knows no rule"
+
 case_ "how a command is called is the same in its own help and in the page's synopsis"
 plain_page | sed -n '/^\.SH SYNOPSIS/,/^\.SH DESCRIPTION/ { s/ \[options\]$//; p; }' >synopsis
 grep '^command|' help | cut -d '|' -f 2 >calls
