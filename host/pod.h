@@ -194,8 +194,8 @@ struct pod_powered pod_set_times(struct pod_device device, uint32_t program, uin
  * 1, 2, 7. */
 struct pod_stepped pod_step(struct pod_device device, uint8_t *image, size_t image_len, uint16_t sample);
 
-/* The same on a device that the caller keeps, which is changed in place. Refusals 1, 2, 7; the fields of the device are
- * then as they were (the padding between them is nobody's). */
+/* The same on a device that the caller keeps, which is changed in place. Refusals 1, 2, 7; every byte of the device is
+ * then as it was, padding included. Where the step is done, the padding is unspecified. */
 struct pod_clocked pod_clock(struct pod_device *device, uint8_t *image, size_t image_len, uint16_t sample);
 
 /* Repeats one idle sample until status bit 7 is 1, at most `limit` times; count is how often, 0 where the part is ready

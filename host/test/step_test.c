@@ -8,8 +8,11 @@
 #include "test/compare.h"
 #include "test/edges.h"
 #include "test/expected.h"
+#include "test/fields.h"
 #include "test/rig.h"
 #include "test/scope.h"
+
+#include <string.h>
 
 enum { STRAPS = 5, MAKER = 0x20, DEVICE = 0x2D };
 
@@ -410,6 +413,37 @@ static void test_refusals(void)
     rig_images_stand();
 }
 
+/* A step in place that is refused with `number` leaves every byte of the device as it was lent, and those too that are
+ * no field's, which hold `between`. */
+static void test_refused_bytes(const struct pod_device *device, uint8_t between,
+                               size_t length, unsigned sample, uint32_t number)
+{
+    lent_fill(&rig.twin_device, 0, sizeof *rig.twin, between);
+    for (size_t field = 0; field < FIELDS; field++) {
+        field_set(rig.twin, field, field_get(device, field));
+    }
+    memcpy(rig.twin_device.wanted, rig.twin, sizeof *rig.twin);
+    const struct pod_clocked clocked = pod_clock(rig.twin, rig.twin_image.bytes, length, (uint16_t)sample);
+    expect(number, clocked.number, "number of a step in place, %02Xh between the fields", between);
+    lent_stands(&rig.twin_device, "device of a step in place refused");
+}
+
+static void test_all_bytes(void)
+{
+    static const uint8_t between[] = { 0x5A, 0xA5, 0xFF };
+    const unsigned idle = POD_SAMPLE_IDLE, bad = POD_SAMPLE_IDLE | POD_SAMPLE_VOLTAGE;
+    check_group("refusals: every byte of a device in place stays, between its fields too");
+    for (enum condition condition = IS_READY; condition < CONDITIONS; condition++)
+        for (size_t i = 0; i < sizeof between; i++) {
+            struct pod_device device = ending_device(condition);
+            test_refused_bytes(&device, between[i], POD_IMAGE_BYTES - 1, idle, POD_REFUSED_IMAGE);
+            test_refused_bytes(&device, between[i], POD_IMAGE_BYTES, bad, POD_REFUSED_VOLTAGE);
+            device.straps = POD_STRAPS_MOST + 1;
+            test_refused_bytes(&device, between[i], POD_IMAGE_BYTES, idle, POD_REFUSED_DEVICE);
+        }
+    rig_images_stand();
+}
+
 /* ---- Any device, any sample. */
 
 static void test_any_device(void)
@@ -550,6 +584,7 @@ int main(void)
     test_modes();
     test_commands();
     test_refusals();
+    test_all_bytes();
     test_any_device();
     test_any_traffic();
     test_examples();
