@@ -1,5 +1,6 @@
 -- Document 01, "What can be called" and "Numbered answers": power up and set times. Assumes nothing.
 use Prim.Native.Nat.{ℕ}
+use mathlib.Core.Path.{_≡_}
 use mathlib.Core.Bool.{cond}
 use lib.Dec.{ltb}
 use Rattle.units.specs.declared.Times.{Times}
@@ -33,3 +34,11 @@ timesSet d program slice pause =
     cond (soundOf d)
     (cond (timesFit (times program slice pause)) (powered 0 (withTimes d (times program slice pause))) (powered 4 d))
     (powered 1 d)
+
+-- what power up gives for straps and three times
+abbrev pub PowersUp : ℕ → ℕ → ℕ → ℕ → Powered → Type 0
+PowersUp straps program slice pause r = r ≡ poweredUp straps program slice pause
+
+-- what set times gives for a device and three times
+abbrev pub SetsTimes : Device → ℕ → ℕ → ℕ → Powered → Type 0
+SetsTimes d program slice pause r = r ≡ timesSet d program slice pause

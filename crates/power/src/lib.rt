@@ -6,8 +6,8 @@ use status::status;
 use units::are_times;
 use units::times_of;
 ghost use mathlib.Core.Path.{_≡_};
-ghost use Rattle.power.specs.Power.{powerRefused, poweredUp, timesSet};
-ghost use Rattle.power.specs.Told.{statusTold, marksTold};
+ghost use Rattle.power.specs.Power.{powerRefused, PowersUp, SetsTimes};
+ghost use Rattle.power.specs.Told.{TellsStatus, TellsMarks};
 
 // A number and the device that goes with it.
 #[repr(C)]
@@ -27,7 +27,7 @@ fn refused(number: u32) -> Powered
 }
 
 pub fn power_up(straps: u32, program: u32, slice: u32, pause: u32) -> Powered
-    ensures { λ r. ⌜ r ≡ poweredUp straps program slice pause ⌝ }
+    ensures { λ r. ⌜ PowersUp straps program slice pause r ⌝ }
 {
     if 15 < straps {
         return refused(3);
@@ -42,7 +42,7 @@ pub fn power_up(straps: u32, program: u32, slice: u32, pause: u32) -> Powered
 }
 
 pub fn set_times(device: Device, program: u32, slice: u32, pause: u32) -> Powered
-    ensures { λ r. ⌜ r ≡ timesSet device program slice pause ⌝ }
+    ensures { λ r. ⌜ SetsTimes device program slice pause r ⌝ }
 {
     if sound(device) {
         if are_times(program, slice, pause) {
@@ -61,7 +61,7 @@ pub fn set_times(device: Device, program: u32, slice: u32, pause: u32) -> Powere
 
 // The status register as a host asks for it, 0 of a device that is not sound.
 pub fn status_told(d: Device) -> u32
-    ensures { λ r. ⌜ r ≡ statusTold d ⌝ }
+    ensures { λ r. ⌜ TellsStatus d r ⌝ }
 {
     if sound(d) {
         let controller = d.controller;
@@ -72,7 +72,7 @@ pub fn status_told(d: Device) -> u32
 
 // The spoiled marks likewise, bit b for block b.
 pub fn marks_told(d: Device) -> u32
-    ensures { λ r. ⌜ r ≡ marksTold d ⌝ }
+    ensures { λ r. ⌜ TellsMarks d r ⌝ }
 {
     if sound(d) {
         return d.controller.marks as u32;

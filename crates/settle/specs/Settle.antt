@@ -1,6 +1,7 @@
 -- Document 01, "Settle": one idle sample is repeated up to N times; the count is the least number of samples after which
 -- status bit 7 is 1, and 0 if it is 1 already. Assumes nothing.
 use Prim.Native.Nat.{ℕ, zero, suc, _+_, _/_, _%_}
+use mathlib.Core.Path.{_≡_}
 use mathlib.Core.Bool.{Bool, true, cond}
 use mathlib.Core.List.{List}
 use lib.Dec.{eqb}
@@ -58,3 +59,8 @@ settledOf d image sample limit =
 unfoldable pub imageSettled : Device → List ℕ → ℕ → ℕ → List ℕ
 imageSettled d image sample limit =
     cond (eqb (settleNumber d image sample) 0) (settling sample limit 0 (world d image) .world .image) image
+
+-- what a settle gives for a device, an image, a sample and a limit: the answer, and the image after
+abbrev pub Settles : Device → List ℕ → ℕ → ℕ → Settled → List ℕ → Type 0
+Settles d image sample limit r after =
+    (r ≡ settledOf d image sample limit) × (after ≡ imageSettled d image sample limit)

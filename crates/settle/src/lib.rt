@@ -15,7 +15,7 @@ ghost use Rattle.record.specs.Sample.{isIdleSample};
 ghost use Rattle.soundness.specs.Sound.{soundOf};
 ghost use Rattle.access.specs.Write.{withController};
 ghost use Rattle.clock.specs.Fold.{world};
-ghost use Rattle.settle.specs.Settle.{isReady, stop, settling, settleNumber, stopNumber, settledOf, imageSettled};
+ghost use Rattle.settle.specs.Settle.{isReady, stop, settling, settleNumber, stopNumber, Settles};
 
 // The numbered answer of a settle, how many samples were done, and the device after them.
 #[repr(C)]
@@ -119,8 +119,7 @@ fn stop_number(ready: bool) -> u32
 
 // Settle: refused with nothing changed, done with the least count, or 10 with all of `limit` done.
 pub fn settle(device: Device, image: &mut [u8], sample: u16, limit: u32) -> Settled
-    ensures { λ r. ⌜ (r ≡ settledOf device (now (image .entry)) sample limit)
-        × (now (image .exit) ≡ imageSettled device (now (image .entry)) sample limit) ⌝ }
+    ensures { λ r. ⌜ Settles device (now (image .entry)) sample limit r (now (image .exit)) ⌝ }
 {
     let number = settle_number(device, image, sample);
     if number == 0 {

@@ -1,6 +1,7 @@
 -- Document 01, "Bay sheet": fields of a one-byte tag, a two-byte length and a value, the straps under tag 01h, then the
 -- three times under tag 02h, and nothing else; what reading some bytes gives, and what writing leaves. Assumes nothing.
 use Prim.Native.Nat.{ℕ, _+_, _*_, _/_, _%_}
+use mathlib.Core.Path.{_≡_}
 use mathlib.Core.Bool.{Bool, cond}
 use mathlib.Core.List.{List, [], _∷_, _++_}
 use lib.Dec.{eqb, ltb}
@@ -74,3 +75,15 @@ writeOf buffer straps program slice pause =
     (cond (timesFit (times program slice pause))
     (cond (ltb (length buffer) 13) (sheetWritten 6 buffer) (sheetWritten 0 (laid straps program slice pause ++ drop 13 buffer)))
     (sheetWritten 4 buffer))
+
+-- what reading gives for some bytes
+abbrev pub Reads : List ℕ → Reading → Type 0
+Reads s r = r ≡ readOf s
+
+-- the same as numbers
+abbrev pub ReadsNumbers : List ℕ → Sheet → Type 0
+ReadsNumbers s r = r ≡ numbersOf (readOf s)
+
+-- what writing gives for a buffer, straps and three times: the number, and the buffer after
+abbrev pub WritesSheet : List ℕ → ℕ → ℕ → ℕ → ℕ → ℕ → List ℕ → Type 0
+WritesSheet buffer straps program slice pause r after = sheetWritten r after ≡ writeOf buffer straps program slice pause

@@ -10,7 +10,7 @@ ghost use mathlib.Core.List.{_++_};
 ghost use Prim.Native.Nat.{_+_, _*_, _/_, _%_, _<_, _≤_};
 ghost use lib.ListN.{length, drop};
 ghost use Rattle.basics.specs.Bytes.{twoAt};
-ghost use Rattle.sheet.specs.Sheet.{laid, fieldAt, ofLayout, timesIn, readOf, numbersOf, sheetWritten, writeOf};
+ghost use Rattle.sheet.specs.Sheet.{laid, fieldAt, ofLayout, timesIn, numbersOf, Reads, ReadsNumbers, WritesSheet};
 
 // What some bytes are as a sheet.
 pub enum Reading {
@@ -64,7 +64,7 @@ fn times_in(s: &[u8]) -> Times
 }
 
 pub fn read(sheet: &[u8]) -> Reading
-    ensures { λ r. ⌜ r ≡ readOf (now (sheet .entry)) ⌝ }
+    ensures { λ r. ⌜ Reads (now (sheet .entry)) r ⌝ }
 {
     if of_layout(sheet) {
         let straps = sheet[3];
@@ -80,7 +80,7 @@ pub fn read(sheet: &[u8]) -> Reading
     Reading::BadLayout
 }
 
-pub fn numbers(reading: Reading) -> Sheet
+fn numbers(reading: Reading) -> Sheet
     ensures { λ r. ⌜ r ≡ numbersOf reading ⌝ }
 {
     match reading {
@@ -111,7 +111,7 @@ fn refused(number: u32) -> Sheet
 
 // A reading as numbers alone.
 pub fn read_numbers(sheet: &[u8]) -> Sheet
-    ensures { λ r. ⌜ r ≡ numbersOf (readOf (now (sheet .entry))) ⌝ }
+    ensures { λ r. ⌜ ReadsNumbers (now (sheet .entry)) r ⌝ }
 {
     numbers(read(sheet))
 }
@@ -164,7 +164,7 @@ fn put(buffer: &mut [u8], bytes: [u8; 13])
 }
 
 pub fn write(buffer: &mut [u8], straps: u32, program: u32, slice: u32, pause: u32) -> u32
-    ensures { λ r. ⌜ sheetWritten r (now (buffer .exit)) ≡ writeOf (now (buffer .entry)) straps program slice pause ⌝ }
+    ensures { λ r. ⌜ WritesSheet (now (buffer .entry)) straps program slice pause r (now (buffer .exit)) ⌝ }
 {
     if 15 < straps {
         return 3;

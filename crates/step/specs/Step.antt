@@ -1,6 +1,7 @@
 -- Document 01, "Step" and "Numbered answers": 1 for an unsound device, 2 for an image of another length, 7 for voltage
 -- class 3, lowest first; a refusal leaves the image and returns the device handed in. Assumes nothing.
 use Prim.Native.Nat.{ℕ}
+use mathlib.Core.Path.{_≡_}
 use mathlib.Core.Bool.{cond}
 use mathlib.Core.List.{List}
 use lib.Dec.{eqb}
@@ -31,3 +32,7 @@ steppedOf d image sample =
 -- the image after the call
 unfoldable pub storedOf : Device → List ℕ → ℕ → List ℕ
 storedOf d image sample = cond (eqb (stepNumber d image sample) 0) (imageAfter d image sample) image
+
+-- what a step gives for a device, an image and a sample: the answer, and the image after
+abbrev pub Steps : Device → List ℕ → ℕ → Stepped → List ℕ → Type 0
+Steps d image sample r after = (r ≡ steppedOf d image sample) × (after ≡ storedOf d image sample)

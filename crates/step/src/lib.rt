@@ -4,8 +4,7 @@ use part::Part;
 use record::Device;
 use record::voltage;
 use soundness::sound;
-ghost use mathlib.Core.Path.{_≡_};
-ghost use Rattle.step.specs.Step.{steppedOf, storedOf};
+ghost use Rattle.step.specs.Step.{Steps};
 
 // The numbered answer of a step, its answer byte and the next device.
 #[repr(C)]
@@ -17,8 +16,7 @@ pub struct Stepped {
 
 // Step: a device, the image and one sample.
 pub fn step(device: Device, image: &mut [u8], sample: u16) -> Stepped
-    ensures { λ r. ⌜ (r ≡ steppedOf device (now (image .entry)) sample)
-        × (now (image .exit) ≡ storedOf device (now (image .entry)) sample) ⌝ }
+    ensures { λ r. ⌜ Steps device (now (image .entry)) sample r (now (image .exit)) ⌝ }
 {
     if sound(device) {
         if image.len() == Part::BYTES {

@@ -1,5 +1,6 @@
 -- Document 01, "Run": from power-up through a stream of samples. Assumes nothing.
 use Prim.Native.Nat.{ℕ, _/_, _%_}
+use mathlib.Core.Path.{_≡_}
 use mathlib.Core.Bool.{Bool, true, false, cond}
 use mathlib.Core.List.{List, [], _∷_, _++_}
 use lib.Dec.{eqb, ltb}
@@ -62,3 +63,8 @@ ranOf image stream answers straps program slice pause =
     cond (eqb (runNumber image stream answers straps program slice pause) 0)
     (reported (samples stream) (freshWorld image straps program slice pause) answers)
     (ran (report (runNumber image stream answers straps program slice pause) 0 0 0) image answers)
+
+-- what a run gives for an image, a stream, an answer buffer, straps and three times: the report, and both buffers after
+abbrev pub Runs : List ℕ → List ℕ → List ℕ → ℕ → ℕ → ℕ → ℕ → Report → List ℕ → List ℕ → Type 0
+Runs image stream answers straps program slice pause r after answersAfter =
+    ran r after answersAfter ≡ ranOf image stream answers straps program slice pause

@@ -10,7 +10,7 @@ use units::are_times;
 use units::times_of;
 ghost use mathlib.Core.Path.{_≡_};
 ghost use Rattle.record.specs.Sample.{samples};
-ghost use Rattle.stream.specs.Run.{overvolted, runNumber, ran, ranOf};
+ghost use Rattle.stream.specs.Run.{overvolted, runNumber, Runs};
 
 // The numbered answer of a run, samples done, the status register and the spoiled marks.
 #[repr(C)]
@@ -82,8 +82,8 @@ pub fn run(
     slice: u32,
     pause: u32,
 ) -> Report
-    ensures { λ r. ⌜ ran r (now (image .exit)) (now (answers .exit))
-        ≡ ranOf (now (image .entry)) (now (stream .entry)) (now (answers .entry)) straps program slice pause ⌝ }
+    ensures { λ r. ⌜ Runs (now (image .entry)) (now (stream .entry)) (now (answers .entry)) straps program slice pause r
+        (now (image .exit)) (now (answers .exit)) ⌝ }
 {
     let number = run_number(image, stream, answers, straps, program, slice, pause);
     if number == 0 {

@@ -1,6 +1,7 @@
 -- Document 01, "Block view": a block's part of the image, or as much of the lent page of zeros where the block is
 -- read-locked, as bytes and as numbers. Assumes nothing.
 use Prim.Native.Nat.{ℕ, _*_}
+use mathlib.Core.Path.{_≡_}
 use mathlib.Core.Bool.{Bool, true, cond, _&&_}
 use mathlib.Core.List.{List, [], _∷_}
 use lib.Bits.{bitAnd}
@@ -46,3 +47,11 @@ pieceShown d image page block =
 -- the bytes that the numbers name
 unfoldable pub bytesNamed : Piece → List ℕ → List ℕ → List ℕ
 bytesNamed p image page = take (p .length) (drop (p .start) (cond (eqb (p .from) 1) image page))
+
+-- what a view gives for a device, an image, a page and a block: the bytes
+abbrev pub Shows : Device → List ℕ → List ℕ → ℕ → List ℕ → Type 0
+Shows d image page block bytes = bytes ≡ shown d image page block
+
+-- the same as numbers
+abbrev pub ShowsPiece : Device → List ℕ → List ℕ → ℕ → Piece → Type 0
+ShowsPiece d image page block r = r ≡ pieceShown d image page block

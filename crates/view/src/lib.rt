@@ -4,7 +4,7 @@ use record::Device;
 use soundness::sound;
 ghost use mathlib.Core.Path.{_≡_};
 ghost use Prim.Native.Nat.{_<_};
-ghost use Rattle.view.specs.Shown.{allZero, isZeros, canShow, readLocked, shown, pieceShown};
+ghost use Rattle.view.specs.Shown.{allZero, isZeros, canShow, readLocked, Shows, ShowsPiece};
 
 // Which lent slice is shown (0 the page's empty front, 1 the image, 2 the page), from where, and how much of it.
 #[repr(C)]
@@ -62,7 +62,7 @@ fn read_locked(device: Device, block: u32) -> bool
 // The 65,536 bytes of a block, or of the page where the block is read-locked; the page's empty front where the device,
 // the image, the block or the page will not do.
 pub fn view<'a>(device: Device, image: &'a [u8], page: &'a [u8], block: u32) -> &'a [u8]
-    ensures { λ r. ⌜ now r ≡ shown device (now (image .entry)) (now (page .entry)) block ⌝ }
+    ensures { λ r. ⌜ Shows device (now (image .entry)) (now (page .entry)) block (now r) ⌝ }
 {
     let size = Part::BLOCK_BYTES as usize;
     if can_show(device, image, page, block) {
@@ -77,7 +77,7 @@ pub fn view<'a>(device: Device, image: &'a [u8], page: &'a [u8], block: u32) -> 
 
 // The same choice as numbers.
 pub fn piece_shown(device: Device, image: &[u8], page: &[u8], block: u32) -> Piece
-    ensures { λ r. ⌜ r ≡ pieceShown device (now (image .entry)) (now (page .entry)) block ⌝ }
+    ensures { λ r. ⌜ ShowsPiece device (now (image .entry)) (now (page .entry)) block r ⌝ }
 {
     if can_show(device, image, page, block) {
         if read_locked(device, block) {
