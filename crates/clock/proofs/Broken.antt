@@ -10,7 +10,6 @@ use lib.ListN.{length}
 use borrow.Author.Tests.{ltb-false, eqb-true, ne-eqb, not-true}
 use Rattle.basics.proofs.Rules.{Answer, yes, no, ask, clash, and-left, and-right}
 use Rattle.record.specs.declared.Frame.{Frame}
-use Rattle.record.specs.declared.Controller.{Controller}
 use Rattle.record.specs.declared.Device.{Device}
 use Rattle.record.specs.Record.{frame, idle, isIdle, isRead, isWrite}
 use Rattle.record.specs.Sample.{lines, frameLine, isReset}
@@ -55,14 +54,6 @@ pub data Writeless (n : ℕ) (f : Frame) : Type 0 where
 -- the world with its bus idle
 abbrev pub silenced : World → World
 silenced w = world (withFrame (w .device) idle) (w .image)
-
--- lock registers, and the controller with its setup, mode, error bits, operations and marks
-pub record Core : Type 0 where
-  pub locks : List ℕ
-  pub controller : Controller
-
-abbrev pub core : Device → Core
-core d = record { locks = d .locks; controller = d .controller }
 
 -- a byte is to be written
 abbrev pub isWritten : Asked → Bool
@@ -117,7 +108,7 @@ unfolding frameClock
 stays straps s = rw (raised-high s)
 
 -- the frame after the bus's clock
-abbrev framed : World → ℕ → Frame
+abbrev pub framed : World → ℕ → Frame
 framed w s = frameClock (w .device .straps) (w .device .frame) s
 
 -- but for the frame, a clock on which no byte is written is one with the bus idle
@@ -146,9 +137,9 @@ unheard (s ∷ ss) w e =
     ∙ ap (through (map raised ss)) (unheard-once w s (not-now writes s ss w e))
 
 -- where the frame line is high, the frame goes one clock on at most, and its kind stays, or the bus is idle
-record Follows (f g : Frame) : Type 0 where
-  clock : g .clock ≤ f .clock + 1
-  kind : isWrite f ≡ false → isWrite g ≡ false
+pub record Follows (f g : Frame) : Type 0 where
+  pub clock : g .clock ≤ f .clock + 1
+  pub kind : isWrite f ≡ false → isWrite g ≡ false
 
 goes : (f : Frame) (c b a : ℕ) → c ≤ f .clock + 1 → Follows f (frame (f .kind) c b a)
 goes f c b a h = record { clock = h; kind = λ e. e }
@@ -185,7 +176,7 @@ write-follows f n = pick (ask (eqb (f .clock) 10)) (ask (eqb (f .clock) 11)) (as
     pick (no a) (no b) (yes c) = rw (a, b, c) (goes f (f .clock + 1) _ _ (omega arith))
     pick (no a) (no b) (no c) = rw (a, b, c) (stops f)
 
-follows : (straps : ℕ) (f : Frame) (s : ℕ) → frameLine s ≡ 1 → Follows f (frameClock straps f s)
+pub follows : (straps : ℕ) (f : Frame) (s : ℕ) → frameLine s ≡ 1 → Follows f (frameClock straps f s)
 unfolding frameClock nextOf
 follows straps f s e = pick (ask (isIdle f)) (ask (ltb (f .clock) 10)) (ask (isRead f))
   where
@@ -195,7 +186,7 @@ follows straps f s e = pick (ask (isIdle f)) (ask (ltb (f .clock) 10)) (ask (isR
     pick (no b) (no c) (yes d) = rw (e, b, c, d) (read-follows f)
     pick (no b) (no c) (no d) = rw (e, b, c, d) (write-follows f (lines s))
 
-writeless-next : (n straps : ℕ) (f : Frame) (s : ℕ) → frameLine s ≡ 1 → Writeless (suc n) f → Writeless n (frameClock straps f s)
+pub writeless-next : (n straps : ℕ) (f : Frame) (s : ℕ) → frameLine s ≡ 1 → Writeless (suc n) f → Writeless n (frameClock straps f s)
 writeless-next n straps f s e (before h) = let q = follows straps f s e in before (omega arith)
 writeless-next n straps f s e (other h) = other (follows straps f s e .kind h)
 
@@ -209,7 +200,7 @@ begun-writeless n nibble h = pick (ask (eqb nibble 13)) (ask (eqb nibble 14))
     pick (no a) (yes b) = rw (a, b) (before (omega arith))
     pick (no a) (no b) = rw (a, b) (other refl)
 
-writeless-low : (n straps : ℕ) (f : Frame) (s : ℕ) → frameLine s ≡ 0 → n ≤ 10 → Writeless n (frameClock straps f s)
+pub writeless-low : (n straps : ℕ) (f : Frame) (s : ℕ) → frameLine s ≡ 0 → n ≤ 10 → Writeless n (frameClock straps f s)
 unfolding frameClock
 writeless-low n straps f s e h = rw e (begun-writeless n (lines s) h)
 
@@ -229,7 +220,7 @@ writeless-asked n f = pick (ask (isRead f)) (ask (eqb (f .clock) 15)) (ask (isWr
     pick (no a) b (yes c) (before h) = rw (a, c, ne-eqb (f .clock) 12 (λ e. omega arith))
     pick (no a) b (yes c) (other h) = clash (sym h ∙ c)
 
-writeless-writes : (n : ℕ) (w : World) (s : ℕ) → Writeless n (framed w s) → writes w s ≡ false
+pub writeless-writes : (n : ℕ) (w : World) (s : ℕ) → Writeless n (framed w s) → writes w s ≡ false
 unfolding writes
 writeless-writes n w s k = pick (ask (isReset s))
   where
@@ -247,7 +238,7 @@ answered-writeless n (Read address) d image s (before h) e = before h
 answered-writeless n (Read address) d image s (other h) e = other h
 answered-writeless n (Write address byte) d image s k e = clash (sym e)
 
-writeless-onward : (n : ℕ) (w : World) (s : ℕ) → Writeless n (framed w s) → Writeless n (onward w s .device .frame)
+pub writeless-onward : (n : ℕ) (w : World) (s : ℕ) → Writeless n (framed w s) → Writeless n (onward w s .device .frame)
 unfolding onward deviceClock resetDevice servedOf
 writeless-onward n w s k = pick (ask (isReset s))
   where
@@ -292,11 +283,3 @@ broken-on hs t w k e f = unheard (hs ++ (t ∷ [])) w (unwritten-on hs t w k e f
 
 pub broken : (ss : List ℕ) (w : World) → BrokenOff ss → silenced (through ss w) ≡ through (map raised ss) (silenced w)
 broken ss w b = unheard ss w (unwritten ss w b)
-
--- so setup, mode, locks, error bits, operations and marks are, and so is the image
-module _ (ss : List ℕ) (d : Device) (image : List ℕ) (b : BrokenOff ss) where
-  pub no-command : core (through ss (world d image) .device) ≡ core (through (map raised ss) (world (withFrame d idle) image) .device)
-  no-command = ap (λ (w : World). core (w .device)) (broken ss (world d image) b)
-
-  pub no-effect : through ss (world d image) .image ≡ through (map raised ss) (world (withFrame d idle) image) .image
-  no-effect = ap (λ (w : World). w .image) (broken ss (world d image) b)

@@ -1,12 +1,11 @@
 -- On a clock without events device and image stay as they are, and nothing is driven. Assumes nothing.
-use mathlib.Core.Path.{_≡_, refl}
+use mathlib.Core.Path.{_≡_}
 use mathlib.Core.Bool.{true, false}
 use mathlib.Core.List.{List}
 use Prim.Native.Nat.{ℕ}
 use lib.Dec.{eqb}
 use borrow.Author.Tests.{eqb-true}
 use Rattle.basics.proofs.Rules.{Answer, yes, no, ask, clash}
-use Rattle.record.specs.declared.Frame.{Frame}
 use Rattle.record.specs.declared.Device.{Device}
 use Rattle.record.specs.Record.{isIdle}
 use Rattle.record.specs.Sample.{frameLine, isReset}
@@ -14,8 +13,8 @@ use Rattle.effect.specs.declared.Effect.the-variants.{Nothing}
 use Rattle.operation.specs.Clock.{active, isStill}
 use Rattle.operation.proofs.Facts.{still-clocked}
 use Rattle.command.specs.declared.Verdict.the-variants.{Unjudged}
-use Rattle.bus.specs.declared.Asked.the-variants.{Nothing as Silent}
-use Rattle.bus.specs.Frames.{frameClock, askedOf, drivenOf}
+use Rattle.bus.specs.Frames.{frameClock}
+use Rattle.bus.proofs.Laws.{idle-silent}
 use Rattle.clock.specs.Clock.{servedOf, happened, deviceClocked, imageAfter, deviceClock}
 use Rattle.clock.specs.Eventless.{isEventless}
 
@@ -32,11 +31,6 @@ eventlessly d sample e = pick (ask (eqb (frameLine sample) 0)) (ask (isIdle (d .
     pick (yes h) i = clash (rw h at e)
     pick (no h) (yes i) = record { high = h; idle = i; still = rw (h, i) at e }
     pick (no h) (no i) = clash (rw (h, i) at e)
-
--- a frame of no kind asks and drives nothing
-pub idle-silent : (f : Frame) → f .kind ≡ 0 → (askedOf f ≡ Silent) × (drivenOf f ≡ 0)
-unfolding askedOf drivenOf
-idle-silent f e = rw e (refl, refl)
 
 module _ (d : Device) (image : List ℕ) (sample : ℕ) (r : isReset sample ≡ false) (e : isEventless d sample ≡ true) where
   pub eventless-device : deviceClocked d 0 (happened Nothing Unjudged false false) ≡ deviceClock d image sample

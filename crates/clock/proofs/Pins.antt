@@ -1,46 +1,46 @@
--- Where no array write ends a setup, operations, marks and array do not hang on TBL, WP, the voltage class, the inputs or
--- the lock registers. Of every device, sound or not. Assumes nothing.
-use mathlib.Core.Path.{_≡_, sym, refl, ap, subst}
-use mathlib.Core.Bool.{Bool, true, false, cond, not, _&&_}
-use mathlib.Core.List.{List, [], _∷_, map}
+-- Where each judgement falls out alike, operations, marks and array do not hang on TBL, WP, the voltage class, the inputs
+-- or the lock registers. Of every device, sound or not. Assumes nothing.
+use mathlib.Core.Path.{_≡_, _∙_, sym, refl, ap, subst}
+use mathlib.Core.Bool.{Bool, true, false}
+use mathlib.Core.List.{List}
 use Prim.Native.Nat.{ℕ, _%_}
 use native.Mathlib.Omega.{arith}
 use lib.Dec.{eqb, ltb}
+use borrow.Author.Tests.{ltb-true, eq-eqb}
 use Rattle.basics.proofs.Rules.{Answer, yes, no, ask, clash}
 use Rattle.units.specs.declared.Times.{Times}
 use Rattle.record.specs.declared.Frame.{Frame}
 use Rattle.record.specs.declared.Controller.{Controller}
 use Rattle.record.specs.declared.Device.{Device}
-use Rattle.record.specs.Record.{device, isIdle, isRead, isWrite}
+use Rattle.record.specs.Record.{device, isIdle, isRead, isWrite, isAbsent}
 use Rattle.record.specs.Sample.{lines, frameLine, rp, init, isReset}
 use Rattle.effect.specs.Effect.{applied}
-use Rattle.operation.specs.Clock.{controllerClock}
+use Rattle.soundness.specs.Sound.{controllerFits, soundOf}
+use Rattle.soundness.proofs.Clauses.{parts}
+use Rattle.operation.specs.declared.ControllerClocked.{ControllerClocked}
+use Rattle.operation.specs.Clock.{active, isStill, replaced, controllerClock}
+use Rattle.operation.proofs.Facts.{still-clocked}
+use Rattle.operation.proofs.Kept.{unset, unset-inside}
 use Rattle.bus.specs.declared.Asked.{Asked}
 use Rattle.bus.specs.declared.Asked.the-variants.{Nothing as Silent, Read, Write}
 use Rattle.bus.specs.Frames.{headed, readOn, nextOf, frameClock, askedOf}
+use Rattle.command.specs.declared.Verdict.{Verdict}
+use Rattle.command.specs.declared.Verdict.the-variants.{Unjudged}
 use Rattle.command.specs.declared.Written.{Written}
 use Rattle.command.specs.Setup.{writtenOf}
-use Rattle.access.specs.Read.{isArray}
+use Rattle.command.proofs.Laws.{verdictBits, command-alone, written-alike, written-marks, written-outer}
+use Rattle.access.specs.Read.{isArray, arrayAddress}
 use Rattle.access.specs.Write.{reachedOf, withLocks}
-use Rattle.clock.specs.Clock.{resetDevice, withByte, answeredTo, servedOf, imageAfter, deviceClock}
-use Rattle.clock.specs.Fold.{World, world, onward, through}
-use Rattle.clock.proofs.Broken.{never, not-now, not-later}
+use Rattle.clock.specs.Clock.{resetDevice, withFrame, withByte, answeredTo, servedOf, afterController, imageAfter, deviceClock}
+use Rattle.clock.specs.Fold.{World, world, onward}
 
 -- bits 0-6 of a sample: all but TBL, WP, the voltage class and the inputs
 unfoldable pub withoutPins : ℕ → ℕ
 withoutPins sample = sample % 128
 
--- the byte is written to the array, and a setup stands
-abbrev pub endsSetup : Asked → ℕ → Bool
-endsSetup Silent setup = false
-endsSetup (Read address) setup = false
-endsSetup (Write address byte) setup = isArray address && not (eqb setup 0)
-
--- an array write ends a setup on the clock of this sample
-unfoldable pub ends : World → ℕ → Bool
-ends w sample =
-    cond (isReset sample) false
-    (endsSetup (askedOf (frameClock (w .device .straps) (w .device .frame) sample)) (controllerClock (w .device .controller) .controller .setup))
+-- the judgement of a clock
+abbrev pub verdictOn : World → ℕ → Verdict
+verdictOn w sample = deviceClock (w .device) (w .image) sample .happened .verdict
 
 -- equal frames, but for the byte that a read in progress has found
 pub data FramesAlike (f : Frame) : Frame → Type 0 where
@@ -123,13 +123,6 @@ fixed-alike : (f g : Frame) (x y : ℕ) → isRead f ≡ true → FramesAlike f 
 fixed-alike f g x y r same = reading r y
 fixed-alike f g x y r (reading q byte) = reading r y
 
--- a command outside a setup does not hang on sample or lock register
-pub command-alone : (c : Controller) (ts us : Times) (s t l m a b byte : ℕ)
-    → eqb (c .setup) 0 ≡ true
-    → writtenOf c ts s l a byte ≡ writtenOf c us t m b byte
-unfolding writtenOf
-command-alone c ts us s t l m a b byte e = rw e
-
 module _ (straps : ℕ) (l m : List ℕ) (ts : Times) (f g : Frame) (c : Controller) (image : List ℕ) (s t : ℕ) (h : FramesAlike f g) where
   abbrev one : Device
   one = device straps l ts f c
@@ -137,43 +130,56 @@ module _ (straps : ℕ) (l m : List ℕ) (ts : Times) (f g : Frame) (c : Control
   abbrev two : Device
   two = device straps m ts g c
 
-  written-alike : (address byte : ℕ)
-      → endsSetup (Write address byte) (c .setup) ≡ false
+  reached-alike : (address byte : ℕ)
+      → verdictBits (reachedOf one s address byte .verdict) ≡ verdictBits (reachedOf two t address byte .verdict)
       → Alike (world (reachedOf one s address byte .device) image) (world (reachedOf two t address byte .device) image)
   unfolding reachedOf
-  written-alike address byte e = pick (ask (isArray address)) (ask (eqb (c .setup) 0))
+  reached-alike address byte = pick (ask (isArray address))
     where
       pick : Answer (isArray address)
-          → Answer (eqb (c .setup) 0)
+          → verdictBits (reachedOf one s address byte .verdict) ≡ verdictBits (reachedOf two t address byte .verdict)
           → Alike (world (reachedOf one s address byte .device) image) (world (reachedOf two t address byte .device) image)
-      pick (yes a) (yes b) =
-          let q = command-alone c ts ts s t _ _ _ _ byte b in
-          rw a (record { straps = refl; times = refl; frames = h; controllers = ap (λ (r : Written). r .controller) q; images = refl })
-      pick (yes a) (no b) = clash (sym (rw (a, b) at e))
-      pick (no a) b = rw a (record { straps = refl; times = refl; frames = h; controllers = refl; images = refl })
+      pick (yes a) e =
+          let q = written-alike c ts s t _ _ (arrayAddress address) byte (rw a at e) in
+          rw a (record { straps = refl; times = refl; frames = h; controllers = q; images = refl })
+      pick (no a) e = rw a (record { straps = refl; times = refl; frames = h; controllers = refl; images = refl })
 
   answered-alike : (a : Asked)
       → (isFixed a ≡ true → isRead f ≡ true)
-      → endsSetup a (c .setup) ≡ false
+      → verdictBits (answeredTo a one image s .verdict) ≡ verdictBits (answeredTo a two image t .verdict)
       → Alike (world (answeredTo a one image s .device) image) (world (answeredTo a two image t .device) image)
   answered-alike Silent r e = record { straps = refl; times = refl; frames = h; controllers = refl; images = refl }
   answered-alike (Read address) r e =
       record { straps = refl; times = refl; frames = fixed-alike f g _ _ (r refl) h; controllers = refl; images = refl }
-  answered-alike (Write address byte) r e = written-alike address byte e
+  answered-alike (Write address byte) r e = reached-alike address byte e
+
+-- the judgement of a clock without a reset is the bus's
+served-verdict : (d : Device) (image : List ℕ) (s : ℕ)
+    → isReset s ≡ false
+    → verdictOn (world d image) s
+    ≡ answeredTo (askedOf (frameClock (d .straps) (d .frame) s)) (withFrame (afterController d) (frameClock (d .straps) (d .frame) s))
+    (applied (controllerClock (d .controller) .effect) image) s .verdict
+unfolding deviceClock servedOf
+served-verdict d image s a = rw (a, verdictOn)
 
 once : (straps : ℕ) (l m : List ℕ) (ts : Times) (f g : Frame) (c : Controller) (image : List ℕ) (s t : ℕ)
     → withoutPins s ≡ withoutPins t
     → FramesAlike f g
-    → ends (world (device straps l ts f c) image) s ≡ false
+    → verdictBits (verdictOn (world (device straps l ts f c) image) s) ≡ verdictBits (verdictOn (world (device straps m ts g c) image) t)
     → Alike (onward (world (device straps l ts f c) image) s) (onward (world (device straps m ts g c) image) t)
-unfolding onward deviceClock imageAfter resetDevice servedOf ends
+unfolding onward deviceClock imageAfter resetDevice servedOf
 once straps l m ts f g c image s t e h = pick (ask (isReset s))
   where
     p : FramesAlike (frameClock straps f s) (frameClock straps g s)
     p = framed-alike straps f g s h
 
+    seen : isReset s ≡ false → verdictOn (world (device straps m ts g c) image) t
+        ≡ answeredTo (askedOf (frameClock straps f s)) (withFrame (afterController (device straps m ts g c)) (frameClock straps g s))
+        (applied (controllerClock c .effect) image) t .verdict
+    seen up = rw (← asked-alike (frameClock straps f s) (frameClock straps g s) p, same-framed straps g s t e) (served-verdict (device straps m ts g c) image t (sym (same-reset s t e) ∙ up))
+
     pick : Answer (isReset s)
-        → ends (world (device straps l ts f c) image) s ≡ false
+        → verdictBits (verdictOn (world (device straps l ts f c) image) s) ≡ verdictBits (verdictOn (world (device straps m ts g c) image) t)
         → Alike (onward (world (device straps l ts f c) image) s) (onward (world (device straps m ts g c) image) t)
     pick (yes a) n =
         rw (← same-reset s t e, a)
@@ -181,44 +187,159 @@ once straps l m ts f g c image s t e h = pick (ask (isReset s))
     pick (no a) n =
         rw (← same-reset s t e, ← same-framed straps g s t e, a, asked-alike (frameClock straps f s) (frameClock straps g s) p)
         (answered-alike straps l m ts (frameClock straps f s) (frameClock straps g s) (controllerClock c .controller) (applied (controllerClock c .effect) image) s t p
-        (askedOf (frameClock straps f s)) (fixed-read (frameClock straps f s)) (rw a at n))
+        (askedOf (frameClock straps f s)) (fixed-read (frameClock straps f s))
+        (ap verdictBits (sym (served-verdict (device straps l ts f c) image s a)) ∙ n ∙ ap verdictBits (seen a)))
 
+-- two worlds that are alike, and two samples that differ in pins, voltage and inputs only: where the judgement has the same
+-- error bit, or none in both, they stay alike
 pub alike-once : (v w : World) (s t : ℕ)
     → withoutPins s ≡ withoutPins t
     → Alike v w
-    → ends v s ≡ false
+    → verdictBits (verdictOn v s) ≡ verdictBits (verdictOn w t)
     → Alike (onward v s) (onward w t)
 alike-once v w s t e a n =
     let d = v .device in
     let k = w .device in
     let q : world (device (d .straps) (k .locks) (d .times) (k .frame) (d .controller)) (v .image) ≡ w = rw (a .straps, a .times, a .controllers, a .images) in
     subst (λ (x : World). Alike (onward v s) (onward x t)) q
-    (once (d .straps) (d .locks) (k .locks) (d .times) (d .frame) (k .frame) (d .controller) (v .image) s t e (a .frames) n)
+    (once (d .straps) (d .locks) (k .locks) (d .times) (d .frame) (k .frame) (d .controller) (v .image) s t e (a .frames)
+    (n ∙ ap (λ (x : World). verdictBits (verdictOn x t)) (sym q)))
 
-pub alike : (ss ts : List ℕ) (v w : World)
-    → map withoutPins ss ≡ map withoutPins ts
-    → Alike v w
-    → never ends ss v ≡ true
-    → Alike (through ss v) (through ts w)
-alike [] [] v w e a n = a
-alike [] (t ∷ ts) v w e a n = clash (cc)
-alike (s ∷ ss) [] v w e a n = clash (cc)
-alike (s ∷ ss) (t ∷ ts) v w e a n =
-    alike ss ts (onward v s) (onward w t) (cc) (alike-once v w s t (cc) a (not-now ends s ss v n)) (not-later ends s ss v n)
+-- the array and the ends of operations hang on no judgement
+pub image-alike : (d : Device) (image locks : List ℕ) (s t : ℕ)
+    → withoutPins s ≡ withoutPins t
+    → imageAfter (withLocks d locks) image t ≡ imageAfter d image s
+unfolding imageAfter
+image-alike d image locks s t e = rw (same-reset s t e)
 
--- two devices equal but for lock registers, with one image, and two lists of samples equal but for TBL, WP, the voltage
--- class and the inputs, in which no array write ends a setup: operations, marks and array end equal
-module _ (ss ts : List ℕ) (d : Device) (locks image : List ℕ)
-    (e : map withoutPins ss ≡ map withoutPins ts)
-    (n : never ends ss (world d image) ≡ true)
+-- what stands of a controller: its operations, where there are any, and its marks
+pub record Standing (c p q : Controller) : Type 0 where
+  pub outer : isAbsent (c .outer) ≡ false → p .outer ≡ q .outer
+  pub inner : isAbsent (c .inner) ≡ false → p .inner ≡ q .inner
+  pub marks : p .marks ≡ q .marks
+
+same-standing : (c p q : Controller) → p ≡ q → Standing c p q
+same-standing c p q e =
+    record {
+      outer = λ a. ap (λ (x : Controller). x .outer) e;
+      inner = λ a. ap (λ (x : Controller). x .inner) e;
+      marks = ap (λ (x : Controller). x .marks) e;
+    }
+
+none-set : (s : ℕ) → ltb s 1 ≡ true → eqb s 0 ≡ true
+none-set s e = let h = ltb-true s 1 e in eq-eqb s 0 (omega arith)
+
+-- the controller's clock keeps the setup
+clocked-setup : (c : Controller) → controllerClock c .controller .setup ≡ c .setup
+unfolding controllerClock replaced
+clocked-setup c = pick (ask (isStill (active c))) (ask (isAbsent (c .inner)))
   where
-    ended : Alike (through ss (world d image)) (through ts (world (withLocks d locks) image))
-    ended =
-        alike ss ts (world d image) (world (withLocks d locks) image) e
-        (record { straps = refl; times = refl; frames = same; controllers = refl; images = refl }) n
+    pick : Answer (isStill (active c)) → Answer (isAbsent (c .inner)) → controllerClock c .controller .setup ≡ c .setup
+    pick (yes m) i = rw m
+    pick (no m) (yes i) = rw (m, i)
+    pick (no m) (no i) = rw (m, i)
 
-    pub same-controller : through ss (world d image) .device .controller ≡ through ts (world (withLocks d locks) image) .device .controller
-    same-controller = ended .controllers
+-- a write behind the controller's clock
+standing-written : (c : Controller) (ts : Times) (s t l m a byte : ℕ)
+    → controllerFits c ≡ true
+    → Standing c (writtenOf (controllerClock c .controller) ts s l a byte .controller) (writtenOf (controllerClock c .controller) ts t m a byte .controller)
+standing-written c ts s t l m a byte f = pick (ask (isStill (active c)))
+  where
+    k : Controller
+    k = controllerClock c .controller
 
-    pub same-image : through ss (world d image) .image ≡ through ts (world (withLocks d locks) image) .image
-    same-image = ended .images
+    whole : ltb (c .setup) 1 ≡ true → writtenOf k ts s l a byte .controller ≡ writtenOf k ts t m a byte .controller
+    whole e =
+        ap (λ (w : Written). w .controller)
+        (command-alone k ts ts s t l m a a byte (ap (λ (x : ℕ). eqb x 0) (clocked-setup c) ∙ none-set (c .setup) e))
+
+    pick : Answer (isStill (active c)) → Standing c (writtenOf k ts s l a byte .controller) (writtenOf k ts t m a byte .controller)
+    pick (no n) = same-standing c _ _ (whole (unset c f n))
+    pick (yes y) =
+        let q : k ≡ c = ap (λ (x : ControllerClocked). x .controller) (still-clocked c y) in
+        record {
+          outer = λ o. written-outer k ts s t l m a byte (ap (λ (x : Controller). isAbsent (x .outer)) q ∙ o);
+          inner = λ i. ap (λ (x : Controller). x .inner) (whole (unset-inside c f i));
+          marks = written-marks k ts s l a byte ∙ sym (written-marks k ts t m a byte);
+        }
+
+-- of a sound device: a clock takes the operations that stand and the marks on alike, whatever is judged
+module _ (d : Device) (image locks : List ℕ) (s t : ℕ) (e : withoutPins s ≡ withoutPins t) where
+  module _ (f : soundOf d ≡ true) where
+    answered-standing : (a : Asked) (g : Frame) (late : List ℕ)
+        → Standing (d .controller) (answeredTo a (withFrame (afterController d) g) late s .device .controller) (answeredTo a (withFrame (afterController (withLocks d locks)) g) late t .device .controller)
+    unfolding reachedOf
+    answered-standing Silent g late = same-standing (d .controller) _ _ refl
+    answered-standing (Read address) g late = same-standing (d .controller) _ _ refl
+    answered-standing (Write address byte) g late = pick (ask (isArray address))
+      where
+        pick : Answer (isArray address)
+            → Standing (d .controller) (answeredTo (Write address byte) (withFrame (afterController d) g) late s .device .controller) (answeredTo (Write address byte) (withFrame (afterController (withLocks d locks)) g) late t .device .controller)
+        pick (yes a) = rw a (standing-written (d .controller) (d .times) s t _ _ (arrayAddress address) byte (parts d f .controller))
+        pick (no a) = rw a (same-standing (d .controller) _ _ refl)
+
+    pub standing : Standing (d .controller) (deviceClock d image s .device .controller) (deviceClock (withLocks d locks) image t .device .controller)
+    unfolding deviceClock servedOf resetDevice
+    standing = pick (ask (isReset s))
+      where
+        pick : Answer (isReset s) → Standing (d .controller) (deviceClock d image s .device .controller) (deviceClock (withLocks d locks) image t .device .controller)
+        pick (yes a) = rw (← same-reset s t e, a) (same-standing (d .controller) _ _ refl)
+        pick (no a) =
+            rw (← same-reset s t e, ← same-framed (d .straps) (d .frame) s t e, a)
+            (answered-standing (askedOf (frameClock (d .straps) (d .frame) s)) (frameClock (d .straps) (d .frame) s) (applied (controllerClock (d .controller) .effect) image))
+
+-- outside a setup, of any device: a clock of its controller hangs on no pin and no lock register, nor on its times
+module _ (straps : ℕ) (l m : List ℕ) (ts us : Times) (f : Frame) (c : Controller) (image : List ℕ) (s t : ℕ) (n : eqb (c .setup) 0 ≡ true) where
+  answered-alone : (a : Asked) (g : Frame) (late : List ℕ)
+      → answeredTo a (withFrame (afterController (device straps l ts f c)) g) late s .device .controller
+      ≡ answeredTo a (withFrame (afterController (device straps m us f c)) g) late t .device .controller
+  unfolding reachedOf
+  answered-alone Silent g late = refl
+  answered-alone (Read address) g late = refl
+  answered-alone (Write address byte) g late = pick (ask (isArray address))
+    where
+      pick : Answer (isArray address)
+          → answeredTo (Write address byte) (withFrame (afterController (device straps l ts f c)) g) late s .device .controller
+          ≡ answeredTo (Write address byte) (withFrame (afterController (device straps m us f c)) g) late t .device .controller
+      pick (yes a) =
+          rw a
+          (ap (λ (w : Written). w .controller)
+          (command-alone (controllerClock c .controller) ts us s t _ _ _ _ byte (ap (λ (x : ℕ). eqb x 0) (clocked-setup c) ∙ n)))
+      pick (no a) = rw a
+
+  pub alone : withoutPins s ≡ withoutPins t
+      → deviceClock (device straps l ts f c) image s .device .controller ≡ deviceClock (device straps m us f c) image t .device .controller
+  unfolding deviceClock servedOf resetDevice
+  alone e = pick (ask (isReset s))
+    where
+      pick : Answer (isReset s)
+          → deviceClock (device straps l ts f c) image s .device .controller ≡ deviceClock (device straps m us f c) image t .device .controller
+      pick (yes a) = rw (← same-reset s t e, a)
+      pick (no a) =
+          rw (← same-reset s t e, ← same-framed straps f s t e, a)
+          (answered-alone (askedOf (frameClock straps f s)) (frameClock straps f s) (applied (controllerClock c .effect) image))
+
+-- no judgement falls on a clock on which an operation counts: no setup stands beside it
+module _ (d : Device) (image : List ℕ) (s : ℕ) (f : soundOf d ≡ true) (m : isStill (active (d .controller)) ≡ false) where
+  unset-now : eqb (controllerClock (d .controller) .controller .setup) 0 ≡ true
+  unset-now =
+      ap (λ (x : ℕ). eqb x 0) (clocked-setup (d .controller))
+      ∙ none-set (d .controller .setup) (unset (d .controller) (parts d f .controller) m)
+
+  answered-unjudged : (a : Asked) (g : Frame) (late : List ℕ) → answeredTo a (withFrame (afterController d) g) late s .verdict ≡ Unjudged
+  unfolding reachedOf writtenOf
+  answered-unjudged Silent g late = refl
+  answered-unjudged (Read address) g late = refl
+  answered-unjudged (Write address byte) g late = pick (ask (isArray address))
+    where
+      pick : Answer (isArray address) → answeredTo (Write address byte) (withFrame (afterController d) g) late s .verdict ≡ Unjudged
+      pick (yes a) = rw (a, unset-now)
+      pick (no a) = rw a
+
+  pub unjudged : verdictOn (world d image) s ≡ Unjudged
+  unfolding deviceClock
+  unjudged = pick (ask (isReset s))
+    where
+      pick : Answer (isReset s) → verdictOn (world d image) s ≡ Unjudged
+      pick (yes r) = rw (r, verdictOn)
+      pick (no r) = served-verdict d image s r ∙ answered-unjudged (askedOf (frameClock (d .straps) (d .frame) s)) (frameClock (d .straps) (d .frame) s) (applied (controllerClock (d .controller) .effect) image)

@@ -141,7 +141,7 @@ column : (byte : ℕ)
 unfolding columnOf
 column byte a b c d e f g h i = search either depth 20
 
-column-below : (byte : ℕ) → columnOf byte < 9
+pub column-below : (byte : ℕ) → columnOf byte < 9
 column-below byte =
     column byte
     (record { below = omega arith })

@@ -17,10 +17,10 @@ use Rattle.record.specs.Sample.{lines, frameLine, isReset, sampleAt, isIdleSamp
 use Rattle.fast_forward.specs.Forward.{imageLater}
 use Rattle.bus.specs.declared.Asked.the-variants.{Nothing as Silent}
 use Rattle.bus.specs.Frames.{begun, shifted, headed, readOn, writeOn, nextOf, frameClock, askedOf, drivenOf}
+use Rattle.bus.proofs.Laws.{idle-silent}
 use Rattle.access.specs.Read.{isArray, arrayAddress, valueOf}
 use Rattle.access.specs.Write.{reachedOf}
 use Rattle.record.proofs.Samples.{Idle, idle-sample}
-use Rattle.clock.proofs.Eventless.{idle-silent}
 use Rattle.clock.specs.Fold.{World, world}
 use Rattle.lookahead.specs.Lookahead.{isStart, allIdle, addressOver, addressAt, isFrameOver, endedFrame, wholeFrame, byteAt, readAnswers}
 use Rattle.fast_run.specs.Stretch.{deviceLater, worldLater}

@@ -211,6 +211,11 @@ unset c e m = pick (ask (isAbsent (c .inner))) (ask (isAbsent (c .outer))) (ask 
     pick (yes i) (no o) (no r) (no p) (yes s) = clash (sym (rw (i, o, s) at m))
     pick (yes i) (no o) (no r) (no p) (no s) = clash (sym s ∙ suspended-else (c .outer) (outer-fits c e o) r p)
 
+-- nor beside a program inside a suspended erase
+pub unset-inside : (c : Controller) → controllerFits c ≡ true → isAbsent (c .inner) ≡ false → ltb (c .setup) 1 ≡ true
+unfolding controllerFits conditionOf
+unset-inside c e i = rw i at (holds _ 4 e)
+
 outer-after : (o n : Operation) → outerFits o ≡ true → isAbsent o ≡ false → After o n → outerFits n ≡ true
 unfolding outerFits
 outer-after o n e a (gone g) = rw g

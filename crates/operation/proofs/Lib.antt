@@ -4,4 +4,4 @@ pub mod FitsIn
 pub mod Kept
 pub mod Rest
 pub mod Marked
-pub mod Alone
+pub mod Due
