@@ -25,7 +25,7 @@ use Rattle.operation.proofs.Facts.{fits, outer-fits, inner-fits, moving}
 use Rattle.operation.proofs.FitsIn.{operation-clock-in}
 use Rattle.operation.proofs.Kept.{Same, paused-same}
 use Rattle.operation.proofs.Rest.{operation-clock-rest}
-use Rattle.operation.proofs.Marked.{clearing-other}
+use Rattle.operation.proofs.Marked.{clearing-same, clearing-other}
 use Rattle.demands.specs.History.{isOn, opOf, isLast, contents}
 use Rattle.clock.proofs.Kept.{applied-length}
 use Rattle.demands.proofs.Block.{inside-image, contents-other, contents-rest, restIn}
@@ -100,6 +100,7 @@ pub data Counting (b : ℕ) (c : Controller) (d : List ℕ) : Type 0 where
       → isAbsent (opOf b (controllerClock c .controller)) ≡ true
       → contents b (applied (controllerClock c .effect) d) ≡ contents b (rest (opOf b c) d)
       → (isErase (opOf b c) ≡ false → marked (controllerClock c .controller .marks) b ≡ marked (c .marks) b)
+      → (isErase (opOf b c) ≡ true → marked (controllerClock c .controller .marks) b ≡ false)
       → Counting b c d
 
 -- a block's operation, by where it stands
@@ -169,6 +170,10 @@ marks-other m b o true h l n = pick (ask (isErase o))
     pick (yes k) = rw k (clearing-other m (blockOf (o .address)) b l h n)
     pick (no k) = rw k
 
+marks-own : (m b : ℕ) (o : Operation) → b < 16 → blockOf (o .address) ≡ b → isErase o ≡ true → marked (marksAfter m o true) b ≡ false
+unfolding marksAfter
+marks-own m b o h e k = rw k (clearing-same m (blockOf (o .address)) b (rw e h) h (sym e))
+
 -- a clock of an operation leaves the image's length
 size : (o : Operation) (d : List ℕ) → operationFits o ≡ true → length d ≡ 1048576 → length (applied (operationClock o .effect) d) ≡ 1048576
 size o d f l =
@@ -178,6 +183,8 @@ size o d f l =
 
 -- the operation that counts is the block's own
 turning : (b : ℕ) (c : Controller) (d : List ℕ) (o : Operation)
+    → b < 16
+    → blockOf (o .address) ≡ b
     → opOf b c ≡ o
     → isAbsent o ≡ false
     → operationFits o ≡ true
@@ -189,7 +196,7 @@ turning : (b : ℕ) (c : Controller) (d : List ℕ) (o : Operation)
     → (Like o (operationClock o .operation) → opOf b (controllerClock c .controller) ≡ operationClock o .operation)
     → length d ≡ 1048576
     → Counting b c d
-turning b c d o e a f m w x y g k l = pick (one-clock o m)
+turning b c d o h u e a f m w x y g k l = pick (one-clock o m)
   where
     r : rest (operationClock o .operation) (applied (operationClock o .effect) d) ≡ rest o d
     r = operation-clock-rest o d f a l
@@ -198,7 +205,8 @@ turning b c d o e a f m w x y g k l = pick (one-clock o m)
     pick (over t n q) =
         let z = ap (λ (v : Operation). rest v (applied (operationClock o .effect) d)) n ∙ absent-rest absent (applied (operationClock o .effect) d) refl in
         ends w (rw e t) (rw e a) (rw (g n)) (rw (x, e) (ap (contents b) (sym z ∙ r)))
-        (λ v. rw y (ap (λ (u : ℕ). marked u b) (marks-program (c .marks) o (operationClock o .finished) (rw e at v))))
+        (λ v. rw y (ap (λ (z : ℕ). marked z b) (marks-program (c .marks) o (operationClock o .finished) (rw e at v))))
+        (λ v. rw (y, q) (marks-own (c .marks) b o h u (rw e at v)))
     pick (on t q n) =
         goes (rw e t) (rw (e, k n) (like-absent o (operationClock o .operation) n)) (rw (e, k n) n)
         (rw (e, k n, x) (ap (contents b) r))
@@ -316,7 +324,7 @@ alone b c d h e l i = pick (ask (isStill (c .outer))) (ask (isOn b (c .outer)))
     pick (yes m) x = resting-on b c d (rw (active-own true c i) m) (quiet m x)
     pick (no m) (yes x) =
         let f = outer-fits c e (moving (c .outer) m) in
-        turning b c d (c .outer) (on-outer b c x) (moving (c .outer) m) f m (rw (active-own true c i) m) (turn true c i m .effect) (turn true c i m .marks)
+        turning b c d (c .outer) h (on-here b (c .outer) x .1) (on-outer b c x) (moving (c .outer) m) f m (rw (active-own true c i) m) (turn true c i m .effect) (turn true c i m .marks)
         (λ g. on-none b (controllerClock c .controller) (rw (turn true c i m .next, g) (off-none b)) (rw (turn true c i m .side) side))
         (λ k. on-outer b (controllerClock c .controller) (rw (turn true c i m .next) (like-on b (c .outer) _ k ∙ x)) ∙ turn true c i m .next)
         l
@@ -355,7 +363,7 @@ inside-erase b c d h e l i = pick (ask (isOn b (c .outer))) (ask (isOn b (c .inn
         (suspended-last (c .outer) (n .there) (n .rests)) (λ z. (f, k)) (n .sound) (λ z. n .apart-from (k ∙ z))
         (turn false c i m .effect) (turn false c i m .marks) l
     pick (no x) (yes y) =
-        turning b c d (c .inner) (on-inner b c x y) i (n .sound) m (rw (active-own false c i) m) (turn false c i m .effect) (turn false c i m .marks)
+        turning b c d (c .inner) h (on-here b (c .inner) y .1) (on-inner b c x y) i (n .sound) m (rw (active-own false c i) m) (turn false c i m .effect) (turn false c i m .marks)
         (λ g. on-none b (controllerClock c .controller) (rw (turn false c i m .side) x) (rw (turn false c i m .next, g) (off-none b)))
         (λ k. on-inner b (controllerClock c .controller) (rw (turn false c i m .side) x) (rw (turn false c i m .next) (like-on b (c .inner) _ k ∙ y)) ∙ turn false c i m .next)
         l

@@ -23,7 +23,7 @@ use Rattle.operation.specs.Whole.{rest}
 use Rattle.clock.specs.Clock.{deviceClock, imageAfter}
 use Rattle.clock.specs.Fold.{World, world}
 use Rattle.clock.proofs.Kept.{device-clock-sound, image-length}
-use Rattle.demands.specs.History.{Event, clock, retime, after, ending, atPowerUp, isOn, opOf, opOn, isThere, isLast, finishes, Fate, finished, cut, unfinished, fate, isFinished, Acceptance, sampleOf, accepted, operations, allowed, allAllowed, contents, erased, whole, doneInOrder, Demand3, Demand3Allowed}
+use Rattle.demands.specs.History.{Event, clock, retime, after, ending, atPowerUp, isOn, opOf, opOn, isThere, isLast, finishes, Fate, finished, cut, unfinished, fate, isFinished, Acceptance, sampleOf, accepted, operations, allowed, allAllowed, contents, erased, whole, doneInOrder}
 use Rattle.demands.proofs.Counting.{Like, absent-rest}
 use Rattle.demands.proofs.Turns.{Turn, goes, ends, starts, cuts, turn, Good, refuses, steps}
 
@@ -223,14 +223,20 @@ fresh-none b straps program slice pause = pick (ask (ltb 15 straps)) (ask (times
     pick (no a) (yes c) = rw (a, c)
     pick (no a) (no c) = rw (a, c)
 
-pub demand-3 : Demand3
-unfolding Demand3 wholeOr
-demand-3 straps program slice pause image history block l h m t =
+pub clocked : (straps program slice pause : ℕ) (image : List ℕ) (es : List Event) (block : ℕ)
+    → length image ≡ 1048576
+    → block < 16
+    → marked (ending es (atPowerUp straps program slice pause image) .device .controller .marks) block ≡ false
+    → isThere block (ending es (atPowerUp straps program slice pause image)) ≡ false
+    → contents block (ending es (atPowerUp straps program slice pause image) .image)
+    ≡ doneInOrder (operations block es (atPowerUp straps program slice pause image)) (contents block image)
+unfolding wholeOr
+clocked straps program slice pause image es block l h m t =
     let w = atPowerUp straps program slice pause image in
     let o = fresh-none block straps program slice pause in
-    told block history w (contents block image) h (record { sound = powered-sound straps program slice pause; size = l })
+    told block es w (contents block image) h (record { sound = powered-sound straps program slice pause; size = l })
     (record { holds = λ u. rw o (ap (contents block) (absent-rest absent image refl)) }) m t
-    ∙ ap (doneInOrder (operations block history w)) (awaits-none block history w (contents block image) (rw o))
+    ∙ ap (doneInOrder (operations block es w)) (awaits-none block es w (contents block image) (rw o))
 
 -- what an event adds to the ledger was allowed
 page-allowed : (b : ℕ) (e : Event) (es : List Event) (w : World)
@@ -246,11 +252,6 @@ page-allowed b e es w (ends f p q r m) h = rw (none-more b e es w p) h
 page-allowed b e es w (starts p q r m k) h = rw (one-new b e es w p q, k) h
 page-allowed b e es w (cuts f p q m) h = rw (none-more b e es w p) h
 
-all-allowed : (b : ℕ) (es : List Event) (w : World) → b < 16 → Good w → allAllowed b (operations b es w) ≡ true
+pub all-allowed : (b : ℕ) (es : List Event) (w : World) → b < 16 → Good w → allAllowed b (operations b es w) ≡ true
 all-allowed b [] w l g = refl
 all-allowed b (e ∷ es) w l g = page-allowed b e es w (turn b e w l g) (all-allowed b es (after e w) l (good-after e w g))
-
-pub demand-3-allowed : Demand3Allowed
-unfolding Demand3Allowed
-demand-3-allowed straps program slice pause image history block l h =
-    all-allowed block history (atPowerUp straps program slice pause image) h (record { sound = powered-sound straps program slice pause; size = l })

@@ -20,22 +20,18 @@ use Rattle.status.specs.declared.Condition.{Condition}
 use Rattle.status.specs.declared.Condition.the-variants.{Ready, Running, Pausing, ProgramSuspended, EraseSuspended, ProgramInside}
 use Rattle.status.specs.Status.{conditionOf, conditionBits, statusOf}
 use Rattle.soundness.specs.Sound.{controllerFits}
-use Rattle.power.specs.Power.{poweredUp}
 use Rattle.soundness.proofs.Clauses.{clauses, parts}
 use Rattle.command.proofs.Kept.{View, ready, view}
 use Rattle.power.proofs.Laws.{powered-sound, power-0}
 use Rattle.operation.specs.Marks.{marked}
-use Rattle.clock.specs.Fold.{World, world, onward, through}
+use Rattle.step.specs.Step.{stepNumber, steppedOf}
+use Rattle.clock.specs.Fold.{World, world, through, answerTo, answersTo}
 use Rattle.stream.specs.Run.{overvolted, misshapen, runNumber, ranOf}
-use Rattle.demands.specs.History.{Event, clock, after, ending, atPowerUp, isThere, tellsNone, operations, contents, doneInOrder, Demand3, Demand3Run}
+use Rattle.demands.specs.History.{clock, after, step, leaving, events, atPowerUp, isThere, tellsNone, contents, answering, RunIsSteps, CallsAreClocks, Demand3, Demand3Run, Demand3Told}
 use Rattle.demands.proofs.Counting.{off-absent}
-use Rattle.demands.proofs.Turns.{Good, steps, op-none}
-use Rattle.demands.proofs.Demand3.{good-after, demand-3}
-
--- a sample that is stepped goes on as the fold does
-goes-on : (w : World) (s : ℕ) → Good w → eqb (voltage s) 3 ≡ false → after (clock s) w ≡ onward w s
-unfolding onward
-goes-on w s g v = steps w s g v
+use Rattle.demands.proofs.Turns.{Good, op-none}
+use Rattle.demands.proofs.Demand3.{good-after}
+use Rattle.demands.proofs.Calls.{good-ending, goes-on, powered, calls-are-clocks, demand-3}
 
 not-class-3 : (s : ℕ) (ss : List ℕ) → overvolted (s ∷ ss) ≡ false → (eqb (voltage s) 3 ≡ false) × (overvolted ss ≡ false)
 not-class-3 s ss e = pick (ask (eqb (voltage s) 3))
@@ -44,7 +40,7 @@ not-class-3 s ss e = pick (ask (eqb (voltage s) 3))
     pick (yes v) = clash (sym (rw v at e))
     pick (no v) = (v, rw v at e)
 
-as-history : (ss : List ℕ) (w : World) → Good w → overvolted ss ≡ false → ending (map clock ss) w ≡ through ss w
+as-history : (ss : List ℕ) (w : World) → Good w → overvolted ss ≡ false → leaving (map step ss) w ≡ through ss w
 as-history [] w g e = refl
 as-history (s ∷ ss) w g e =
     let c = not-class-3 s ss e in
@@ -96,29 +92,24 @@ module _ (image stream answers : List ℕ) (straps program slice pause : ℕ) (n
   start : atPowerUp straps program slice pause image ≡ world (freshOf straps (times program slice pause)) image
   start = ap (λ (p : _). world (p .device) image) (power-0 straps program slice pause (d .straps-fit) (d .times-fit))
 
-  end : ending (map clock (samples stream)) (atPowerUp straps program slice pause image) ≡ through (samples stream) (world (freshOf straps (times program slice pause)) image)
+  end : leaving (map step (samples stream)) (atPowerUp straps program slice pause image) ≡ through (samples stream) (world (freshOf straps (times program slice pause)) image)
   end =
       as-history (samples stream) (atPowerUp straps program slice pause image) (record { sound = powered-sound straps program slice pause; size = d .size }) (d .volts)
       ∙ ap (through (samples stream)) start
 
-  run-image : ranOf image stream answers straps program slice pause .image ≡ ending (map clock (samples stream)) (atPowerUp straps program slice pause image) .image
+  run-image : ranOf image stream answers straps program slice pause .image ≡ leaving (map step (samples stream)) (atPowerUp straps program slice pause image) .image
   unfolding ranOf
   run-image = rw z (ap (λ (w : World). w .image) (sym end))
 
   run-marks : ranOf image stream answers straps program slice pause .report .marks
-      ≡ ending (map clock (samples stream)) (atPowerUp straps program slice pause image) .device .controller .marks
+      ≡ leaving (map step (samples stream)) (atPowerUp straps program slice pause image) .device .controller .marks
   unfolding ranOf
   run-marks = rw z (ap (λ (w : World). w .device .controller .marks) (sym end))
 
   run-status : ranOf image stream answers straps program slice pause .report .status
-      ≡ statusOf (ending (map clock (samples stream)) (atPowerUp straps program slice pause image) .device .controller)
+      ≡ statusOf (leaving (map step (samples stream)) (atPowerUp straps program slice pause image) .device .controller)
   unfolding ranOf
   run-status = rw z (ap (λ (w : World). statusOf (w .device .controller)) (sym end))
-
--- a good world is good at the end
-good-ending : (es : List Event) (w : World) → Good w → Good (ending es w)
-good-ending [] w g = g
-good-ending (e ∷ es) w g = good-ending es (after e w) (good-after e w g)
 
 -- only a ready controller tells of no operation: a computed test of every byte of error bits, for each condition
 abbrev isReadyOne : Condition → Bool
@@ -168,10 +159,37 @@ pub demand-3-run : Demand3Run
 unfolding Demand3Run Demand3
 demand-3-run image stream answers straps program slice pause block h n m t =
     let f = d image stream answers straps program slice pause n in
-    let w = atPowerUp straps program slice pause image in
-    let g = good-ending (map clock (samples stream)) w (record { sound = powered-sound straps program slice pause; size = f .size }) in
-    let u = none-told block (ending (map clock (samples stream)) w) g (ap tellsNone (sym (run-status image stream answers straps program slice pause n)) ∙ t) in
     ap (contents block) (run-image image stream answers straps program slice pause n)
-    ∙ demand-3 straps program slice pause image (map clock (samples stream)) block (f .size) h
+    ∙ demand-3 straps program slice pause image (map step (samples stream)) block (f .size) h
     (ap (λ (k : ℕ). marked k block) (sym (run-marks image stream answers straps program slice pause n)) ∙ m)
-    u
+    t
+
+pub demand-3-told : Demand3Told
+unfolding Demand3Told Demand3Run CallsAreClocks
+demand-3-told image stream answers straps program slice pause block h n m t =
+    let f = d image stream answers straps program slice pause n in
+    let w = atPowerUp straps program slice pause image in
+    let c = calls-are-clocks straps program slice pause image (map step (samples stream)) (f .size) in
+    let g : Good (leaving (map step (samples stream)) w) =
+    rw c (good-ending (events (map step (samples stream)) w) w (powered straps program slice pause image (f .size))) in
+    demand-3-run image stream answers straps program slice pause block h n m
+    (none-told block (leaving (map step (samples stream)) w) g (ap tellsNone (sym (run-status image stream answers straps program slice pause n)) ∙ t))
+
+-- the answers of the steps
+stepped-answer : (w : World) (s : ℕ) → Good w → eqb (voltage s) 3 ≡ false → steppedOf (w .device) (w .image) s .answer ≡ answerTo w s
+unfolding steppedOf stepNumber answerTo
+stepped-answer w s g v = rw (g .sound, g .size, v)
+
+as-answers : (ss : List ℕ) (w : World) → Good w → overvolted ss ≡ false → answering ss w ≡ answersTo ss w
+as-answers [] w g e = refl
+as-answers (s ∷ ss) w g e =
+    let c = not-class-3 s ss e in
+    rw (stepped-answer w s g (c .0), ← goes-on w s g (c .0)) (ap (λ (rest : List ℕ). answerTo w s ∷ rest) (as-answers ss (after (clock s) w) (good-after (clock s) w g) (c .1)))
+
+pub run-is-steps : RunIsSteps
+unfolding RunIsSteps ranOf
+run-is-steps image stream answers straps program slice pause n =
+    let f = d image stream answers straps program slice pause n in
+    let w = atPowerUp straps program slice pause image in
+    let k = as-answers (samples stream) w (powered straps program slice pause image (f .size)) (f .volts) in
+    rw (z image stream answers straps program slice pause n, end image stream answers straps program slice pause n, k, start image stream answers straps program slice pause n)

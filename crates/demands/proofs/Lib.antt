@@ -4,6 +4,15 @@ pub mod Counting
 pub mod Moving
 pub mod Turns
 pub mod Demand3
+pub mod Calls
 pub mod Demand3Run
 pub mod Demand2
+pub mod Frames
+pub mod Others
 pub mod Demand1
+pub mod Pins
+pub mod Operations
+pub mod Answers
+pub mod Marks
+pub mod Status
+pub mod Locks

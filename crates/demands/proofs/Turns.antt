@@ -115,9 +115,9 @@ combined b sample locks c n d h e l z (counts-on t a k r m) (begins s x y f q g)
     ∙ f .all-left (contents b d) (contents-length b d l h))
     (ap (λ (w : ℕ). marked w b) q ∙ m)
     g
-combined b sample locks c n d h e l z (counts-out w t a k r m) (stays x y q) =
+combined b sample locks c n d h e l z (counts-out w t a k r m o) (stays x y q) =
     ends t a (x ∙ k) r (λ v. ap (λ (u : ℕ). marked u b) q ∙ m v)
-combined b sample locks c n d h e l z (counts-out w t a k r m) (begins s x y f q g) =
+combined b sample locks c n d h e l z (counts-out w t a k r m o) (begins s x y f q g) =
     clash (refuse (c .setup) (ap (λ (u : ℕ). eqb u 0) (sym (controller-clock-setup c)) ∙ s) (unset c e w))
 
 -- the bus, whatever the frame has come to ask
@@ -169,7 +169,7 @@ some-there b c e x = pick (ask (isOn b (c .inner)))
 
 -- the marks of a reset
 module _ (b m : ℕ) (o : Operation) (h : b < 16) (l : isAbsent o ≡ false → blockOf (o .address) < 16) where
-  by-other : isOn b o ≡ false → marked (markedBy o m) b ≡ marked m b
+  pub by-other : isOn b o ≡ false → marked (markedBy o m) b ≡ marked m b
   unfolding markedBy isOn
   by-other x = pick (ask (isAbsent o))
     where
@@ -178,11 +178,11 @@ module _ (b m : ℕ) (o : Operation) (h : b < 16) (l : isAbsent o ≡ false → 
       pick (no a) =
           rw a (marking-other m (blockOf (o .address)) b (l a) h (λ z. eqb-false (blockOf (o .address)) b (rw a at x) (sym z)))
 
-  by-own : isOn b o ≡ true → marked (markedBy o m) b ≡ true
+  pub by-own : isOn b o ≡ true → marked (markedBy o m) b ≡ true
   unfolding markedBy
   by-own x = let y = on-here b o x in rw (y .0) (marking-same m (blockOf (o .address)) b (l (y .0)) h (sym (y .1)))
 
-  by-kept : marked m b ≡ true → marked (markedBy o m) b ≡ true
+  pub by-kept : marked m b ≡ true → marked (markedBy o m) b ≡ true
   by-kept k = pick (ask (isOn b o))
     where
       pick : Answer (isOn b o) → marked (markedBy o m) b ≡ true
@@ -193,7 +193,7 @@ reset-none : (b : ℕ) (c : Controller) → opOf b (resetOf c) ≡ absent
 unfolding resetOf opOf isOn
 reset-none b c = refl
 
-reset-marks : (c : Controller) → resetOf c .marks ≡ markedBy (c .inner) (markedBy (c .outer) (c .marks))
+pub reset-marks : (c : Controller) → resetOf c .marks ≡ markedBy (c .inner) (markedBy (c .outer) (c .marks))
 unfolding resetOf
 reset-marks c = refl
 

@@ -1,70 +1,206 @@
--- Demand 2: what a clock does is the definition `deviceClock`; here stand the properties that a reader checks it by.
--- Assumes nothing.
-use Prim.Native.Nat.{ℕ, _+_, _*_, _/_, _%_, _≤_, _<_}
+-- Demand 2 of the bus: what a clock does is the definition `deviceClock`; here stand the properties that a reader checks it
+-- by. What a frame does is said from its samples, the first of them its clock 1. Assumes nothing.
+use Prim.Native.Nat.{ℕ, _+_, _-_, _*_, _/_, _%_, _≤_}
 use mathlib.Core.Path.{_≡_}
-use mathlib.Core.Bool.{Bool, true, false, cond}
+use mathlib.Core.Bool.{Bool, true, false, cond, _&&_, _||_}
 use mathlib.Core.List.{List, [], _∷_, _++_, map}
-use lib.Dec.{eqb, ltb}
-use lib.ListN.{length}
+use lib.Bits.{bitAnd}
+use lib.Dec.{eqb, ltb, leb}
+use lib.ListN.{length, getD, take}
+use Rattle.basics.specs.All.{all}
 use Rattle.units.specs.declared.Times.{Times}
-use Rattle.record.specs.declared.Frame.{Frame}
-use Rattle.record.specs.declared.Controller.{Controller}
 use Rattle.record.specs.declared.Device.{Device}
-use Rattle.record.specs.Record.{idle, isRead, isWrite, blockOf}
-use Rattle.record.specs.Sample.{lines, frameLine}
+use Rattle.record.specs.Record.{idle, isProgram, isErase, isSuspended}
+use Rattle.record.specs.Sample.{lines, frameLine, isReset}
 use Rattle.part.specs.Fresh.{freshOf}
-use Rattle.soundness.specs.Sound.{soundOf}
+use Rattle.soundness.specs.Sound.{allBelow, soundOf}
 use Rattle.status.specs.Status.{statusOf}
 use Rattle.operation.specs.Clock.{active, isStill}
-use Rattle.access.specs.Read.{isArray, registerValue, valueOf}
-use Rattle.clock.specs.Clock.{withFrame, resetDevice, deviceClock, imageAfter}
-use Rattle.clock.specs.Fold.{World, world, through}
-use Rattle.demands.specs.History.{contents}
+use Rattle.bus.specs.Frames.{begun}
+use Rattle.access.specs.Read.{isArray, arrayAddress, registerValue, valueOf}
+use Rattle.access.specs.Write.{reachedOf}
+use Rattle.clock.specs.Clock.{withFrame, afterController, deviceClock, imageAfter}
+use Rattle.clock.specs.Fold.{World, world, through, answersTo}
+
+-- every sample has its frame line high; none has RP or INIT low
+abbrev pub allHigh : List ℕ → Bool
+allHigh [] = true
+allHigh (s ∷ ss) = cond (eqb (frameLine s) 1) (allHigh ss) false
+
+abbrev pub noneResets : List ℕ → Bool
+noneResets [] = true
+noneResets (s ∷ ss) = cond (isReset s) false (noneResets ss)
+
+-- the nibble that the host leaves on clock n of a frame
+abbrev pub nibble : ℕ → List ℕ → ℕ
+nibble n frame = lines (getD frame (n - 1) 0)
+
+-- the address, on clocks 3 to 9, highest nibble first; the data of a write, on 11 and 12, low nibble first
+abbrev pub addressIn : List ℕ → ℕ
+addressIn frame =
+    nibble 3 frame * 0x1000000
+    + nibble 4 frame * 0x100000
+    + nibble 5 frame * 0x10000
+    + nibble 6 frame * 0x1000
+    + nibble 7 frame * 0x100
+    + nibble 8 frame * 0x10
+    + nibble 9 frame
+
+abbrev pub dataIn : List ℕ → ℕ
+dataIn frame = nibble 11 frame + 16 * nibble 12 frame
+
+-- a frame of this first nibble (1101b reads, 1110b writes) that is for this part: its straps on clock 2, 0000b on clock 10
+abbrev pub isFor : ℕ → ℕ → List ℕ → Bool
+isFor kind straps frame =
+    all (eqb (nibble 1 frame) kind ∷ eqb (nibble 2 frame) straps ∷ eqb (nibble 10 frame) 0 ∷ [])
+
+-- what clock n of a read drives, and of a write
+abbrev pub drivenByRead : ℕ → ℕ → ℕ
+drivenByRead n value =
+    cond (ltb n 13) 0
+    (cond (ltb n 15) 0x15
+    (cond (eqb n 15) 0x10
+    (cond (eqb n 16) (0x10 + value % 16)
+    (cond (eqb n 17) (0x10 + value / 16)
+    (cond (eqb n 18) 0x1F 0)))))
+
+abbrev pub drivenByWrite : ℕ → ℕ
+drivenByWrite n = cond (eqb n 15) 0x10 (cond (eqb n 16) 0x1F 0)
+
+-- what the last clock of a frame drives
+abbrev pub driven : ℕ → List ℕ → ℕ → ℕ
+driven straps frame value =
+    cond (isFor 13 straps frame) (drivenByRead (length frame) value)
+    (cond (isFor 14 straps frame) (drivenByWrite (length frame)) 0)
+
+-- the value of a read is fixed on clock 15, by that sample, after the controller's part of that clock
+abbrev pub found : List ℕ → World → ℕ
+found frame w =
+    let v = through (take 14 frame) w in
+    let sample = getD frame 14 0 in
+    valueOf (afterController (v .device)) sample (addressIn frame)
+    (getD (imageAfter (v .device) (v .image) sample) (arrayAddress (addressIn frame)) 0)
+
+-- which clocks drive which nibble, of a frame as far as it has come: the frame line is low on its first clock and high on
+-- the others
+unfoldable pub FrameDrives : Type 0
+FrameDrives =
+    (d : Device) (image : List ℕ) (first : ℕ) (others : List ℕ)
+    → frameLine first ≡ 0
+    → allHigh others ≡ true
+    → noneResets (first ∷ others) ≡ true
+    → getD (answersTo (first ∷ others) (world d image)) (length others) 0
+    ≡ driven (d .straps) (first ∷ others) (found (first ∷ others) (world d image))
+
+-- and outside a frame none: from a reset and from power-up on, while the frame line stays high
+unfoldable pub NothingDriven : Type 0
+NothingDriven =
+    (d : Device) (straps : ℕ) (ts : Times) (image : List ℕ) (first : ℕ) (others : List ℕ)
+    → allHigh others ≡ true
+    → (isReset first ≡ true → getD (answersTo (first ∷ others) (world d image)) (length others) 0 ≡ 0)
+    × (frameLine first ≡ 1 → getD (answersTo (first ∷ others) (world (freshOf straps ts) image)) (length others) 0 ≡ 0)
+
+-- the numbers of a record, an image and a sample fit the widths that the code's types give them
+abbrev pub fitsWidths : Device → List ℕ → ℕ → Bool
+fitsWidths d image sample =
+    all
+    (ltb (d .frame .byte) 256
+    ∷ allBelow 256 (d .locks)
+    ∷ ltb (d .controller .errors) 256
+    ∷ allBelow 256 image
+    ∷ ltb sample 65536
+    ∷ [])
+
+-- the answer byte is 00h or 10h to 1Fh
+unfoldable pub AnswerByte : Type 0
+AnswerByte =
+    (d : Device) (image : List ℕ) (sample : ℕ)
+    → fitsWidths d image sample ≡ true
+    → eqb (deviceClock d image sample .answer) 0
+    || (leb 0x10 (deviceClock d image sample .answer) && leb (deviceClock d image sample .answer) 0x1F)
+    ≡ true
+
+-- two devices that are the same but for the frame in progress: straps, lock registers, times, and the controller with its
+-- setup, mode, error bits, operations and marks
+abbrev pub SameButForFrame : Device → Device → Type 0
+SameButForFrame d e =
+    (d .straps ≡ e .straps) × (d .locks ≡ e .locks) × (d .times ≡ e .times) × (d .controller ≡ e .controller)
 
 -- the sample with its frame line high
 abbrev pub raised : ℕ → ℕ
 raised sample = cond (eqb (frameLine sample) 0) (sample + 16) sample
 
--- every sample has its frame line high
-abbrev pub allHigh : List ℕ → Bool
-allHigh [] = true
-allHigh (s ∷ ss) = cond (eqb (frameLine s) 1) (allHigh ss) false
+abbrev pub SameBehindTheBus : World → World → Type 0
+SameBehindTheBus v w = SameButForFrame (v .device) (w .device) × (v .image ≡ w .image)
 
--- the same lock registers, and the same controller with its setup, mode, error bits, operations and marks
-abbrev pub sameCore : Device → Device → Type 0
-sameCore d e = (d .locks ≡ e .locks) × (d .controller ≡ e .controller)
+-- some clocks with the bus idle
+abbrev pub unheard : List ℕ → World → World
+unheard ss w = through (map raised ss) (world (withFrame (w .device) idle) (w .image))
 
--- a frame that begins and is broken off by a low frame line on its clock 12 or before gives no command: all is as on the
--- same clocks with the bus idle
+-- a frame that is broken off by a low frame line, a read on any clock, another on its clock 12 or before, gives no command:
+-- all is as on the same clocks with the bus idle. The frame that is left is the one that the nibble begins; there is none if
+-- it begins none, or if that sample resets
 unfoldable pub BrokenOffGivesNothing : Type 0
 BrokenOffGivesNothing =
     (d : Device) (image : List ℕ) (first : ℕ) (others : List ℕ) (last : ℕ)
     → frameLine first ≡ 0
     → allHigh others ≡ true
-    → length others ≤ 10
+    → eqb (lines first) 13 || leb (length others) 10 ≡ true
     → frameLine last ≡ 0
-    → sameCore
-    (through (first ∷ (others ++ (last ∷ []))) (world d image) .device)
-    (through (map raised (first ∷ (others ++ (last ∷ [])))) (world (withFrame d idle) image) .device)
-    × (through (first ∷ (others ++ (last ∷ []))) (world d image) .image
-    ≡ through (map raised (first ∷ (others ++ (last ∷ [])))) (world (withFrame d idle) image) .image)
+    → SameBehindTheBus
+    (through (first ∷ (others ++ (last ∷ []))) (world d image))
+    (unheard (first ∷ (others ++ (last ∷ []))) (world d image))
+    × (through (first ∷ (others ++ (last ∷ []))) (world d image) .device .frame
+    ≡ cond (isReset last) idle (begun (lines last)))
 
--- the device drives on a read's clocks from 13 on (after its clock 19 the bus is idle), and on 15 and 16 of a write
-abbrev pub drives : Frame → Bool
-drives f =
-    cond (isRead f) (cond (ltb (f .clock) 13) false true)
-    (cond (isWrite f) (cond (eqb (f .clock) 15) true (eqb (f .clock) 16)) false)
+-- a frame gives no command either that is no write for this part (a read, another first nibble, other straps, another
+-- size), or has not come to its clock 12, or was cut off by a reset on clock 12 or before
+unfoldable pub OtherFramesGiveNothing : Type 0
+OtherFramesGiveNothing =
+    (d : Device) (image : List ℕ) (first : ℕ) (others : List ℕ)
+    → frameLine first ≡ 0
+    → allHigh others ≡ true
+    → all
+    (isFor 14 (d .straps) (first ∷ others)
+    ∷ leb 12 (length (first ∷ others))
+    ∷ noneResets (take 12 (first ∷ others))
+    ∷ [])
+    ≡ false
+    → SameBehindTheBus (through (first ∷ others) (world d image)) (unheard (first ∷ others) (world d image))
 
--- the answer byte is 00h where nothing is driven, and 10h or more where something is
-unfoldable pub AnswerByte : Type 0
-AnswerByte =
-    (d : Device) (image : List ℕ) (sample : ℕ)
-    → (drives (deviceClock d image sample .device .frame) ≡ false → deviceClock d image sample .answer ≡ 0)
-    × (drives (deviceClock d image sample .device .frame) ≡ true → 16 ≤ deviceClock d image sample .answer)
+-- a write acts as soon as its last data nibble is in, on clock 12, by that sample and after the controller's part of that
+-- clock; and whatever comes on the clocks after it, an abort of its turnaround included, takes nothing back: no other
+-- write can end within eleven clocks, and they are as with the bus idle
+unfoldable pub WriteActs : Type 0
+WriteActs =
+    (d : Device) (image : List ℕ) (first : ℕ) (others later : List ℕ)
+    → frameLine first ≡ 0
+    → allHigh others ≡ true
+    → noneResets (first ∷ others) ≡ true
+    → length others ≡ 11
+    → isFor 14 (d .straps) (first ∷ others) ≡ true
+    → length later ≤ 11
+    → SameButForFrame
+    (through (first ∷ others) (world d image) .device)
+    (reachedOf (afterController (through (take 11 (first ∷ others)) (world d image) .device))
+    (getD (first ∷ others) 11 0) (addressIn (first ∷ others)) (dataIn (first ∷ others)) .device)
+    × SameBehindTheBus
+    (through ((first ∷ others) ++ later) (world d image))
+    (unheard later (through (first ∷ others) (world d image)))
 
--- status bit 0 is never set
-unfoldable pub StatusBit0 : Type 0
-StatusBit0 = (d : Device) → soundOf d ≡ true → statusOf (d .controller) % 2 ≡ 0
+-- status bit 7 is 0 while an operation runs or pauses, a program inside a suspended erase included; bit 6 is 1 while an
+-- erase is suspended, that program or not; bit 2 while a program is; bit 0 never; the others are the kept error bits
+unfoldable pub StatusBits : Type 0
+StatusBits =
+    (d : Device)
+    → soundOf d ≡ true
+    → let c = d .controller in
+    let status = statusOf c in
+    (status / 128 % 2 ≡ cond (isStill (active c)) 1 0)
+    × (status / 64 % 2 ≡ cond (isErase (c .outer) && isSuspended (c .outer)) 1 0)
+    × (status / 4 % 2 ≡ cond (isProgram (c .outer) && isSuspended (c .outer)) 1 0)
+    × (status % 2 ≡ 0)
+    × (bitAnd status 0x3A ≡ c .errors)
 
 -- registers answer at all times: neither mode nor operation nor image has a part in it
 unfoldable pub RegistersAnswer : Type 0
@@ -72,17 +208,3 @@ RegistersAnswer =
     (d : Device) (sample address byte : ℕ)
     → isArray address ≡ false
     → valueOf d sample address byte ≡ registerValue (d .locks) sample address
-
--- the image changes only by the operation that counts, and in its own block
-unfoldable pub ImageChanges : Type 0
-ImageChanges =
-    (d : Device) (image : List ℕ) (sample block : ℕ)
-    → soundOf d ≡ true
-    → length image ≡ 1048576
-    → block < 16
-    → (isStill (active (d .controller)) ≡ true → imageAfter d image sample ≡ image)
-    × ((block ≡ blockOf (active (d .controller) .address) → ⊥) → contents block (imageAfter d image sample) ≡ contents block image)
-
--- a fresh device is as reset leaves it
-unfoldable pub FreshAsReset : Type 0
-FreshAsReset = (straps : ℕ) (ts : Times) → resetDevice (freshOf straps ts) ≡ freshOf straps ts

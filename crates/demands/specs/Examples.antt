@@ -1,4 +1,4 @@
--- Document 01, "Proved examples": the ten as one table. The device is fresh, with straps 0 and every time 1; the image is
+-- Document 01, "Proved examples": the ten as one table. The device is fresh, with straps 0 and times 1, 3, 2; the image is
 -- any image with 5Ah at F0005h, in block 15. Assumes nothing.
 use Prim.Native.Nat.{ℕ, zero, suc, _+_, _-_, _/_, _%_, _<_}
 use mathlib.Core.Path.{_≡_}
@@ -101,7 +101,7 @@ upToAcceptance = writes normal lock15 0 ++ (writes normal target 0x40 ++ writesT
 abbrev suspended : List ℕ
 suspended =
     writes normal lock15 0
-    ++ (writes normal target 0x20 ++ (writes normal target 0xD0 ++ (writes normal target 0xB0 ++ idles normal 40)))
+    ++ (writes normal target 0x20 ++ (writes normal target 0xD0 ++ (writes normal target 0xB0 ++ idles normal 70)))
 
 abbrev pub table : List Row
 table =
@@ -109,8 +109,10 @@ table =
     ∷ row (writes normal target 0x40 ++ writes normal target 0x0F) status (0x82 ∷ [])
     ∷ row (writes normal target 0x40 ++ (writes normal target 0x0F ++ idles normal 40)) byte (0x5A ∷ [])
     ∷ row (writes unpowered target 0x40 ++ writes unpowered target 0x0F) status (0x88 ∷ [])
+    ∷ row (writes unpowered target 0x40 ++ (writes unpowered target 0x0F ++ idles unpowered 40)) byte (0x5A ∷ [])
     ∷ row (upToAcceptance ++ idles normal 32) byte (0x5A ∷ [])
     ∷ row (upToAcceptance ++ idles normal 33) byte (0x0A ∷ [])
+    ∷ row (upToAcceptance ++ idles topLow 32) byte (0x5A ∷ [])
     ∷ row (upToAcceptance ++ idles topLow 33) byte (0x0A ∷ [])
     ∷ row (writes normal target 0x20 ++ writes normal target 0) status (0xB0 ∷ [])
     ∷ row (writes normal lock15 3 ++ (writes normal lock15 0 ++ reads lock15)) (answers 4) (0x13 ∷ 0x10 ∷ 0x1F ∷ 0 ∷ [])
@@ -123,7 +125,7 @@ table =
     ∷ []
 
 abbrev start : List ℕ → World
-start image = world (freshOf 0 (times 1 1 1)) image
+start image = world (freshOf 0 (times 1 3 2)) image
 
 -- every row shows what is to be seen
 unfoldable pub Examples : Type 0

@@ -1,5 +1,5 @@
--- Demand 3 in its own words: histories, the operations of a block as they are read off the devices, what was allowed, and
--- what the finished operations make of the block's first contents. Assumes nothing.
+-- Demand 3 in its own words: histories of calls, the operations of a block as they are read off the devices, what was
+-- allowed, and what the finished operations make of the block's first contents. Assumes nothing.
 use Prim.Native.Nat.{ℕ, _*_, _/_, _%_, _<_}
 use mathlib.Core.Path.{_≡_}
 use mathlib.Core.Bool.{Bool, true, false, cond, not}
@@ -10,15 +10,23 @@ use lib.ListN.{length, getD, set, take, drop, replicate}
 use Rattle.basics.specs.All.{all}
 use Rattle.record.specs.declared.Operation.{Operation}
 use Rattle.record.specs.declared.Controller.{Controller}
+use Rattle.record.specs.declared.Device.{Device}
 use Rattle.record.specs.Record.{isAbsent, isProgram, isSuspended, absent, blockOf}
 use Rattle.record.specs.Sample.{rp, init, tbl, wp, voltage, samples}
-use Rattle.power.specs.Power.{poweredUp, timesSet}
+use Rattle.status.specs.Status.{statusOf}
+use Rattle.power.specs.declared.Powered.{Powered}
+use Rattle.power.specs.Power.{poweredUp, timesSet, SetsTimes}
 use Rattle.operation.specs.Marks.{marked}
-use Rattle.step.specs.Step.{steppedOf, storedOf}
+use Rattle.step.specs.declared.Stepped.{Stepped}
+use Rattle.step.specs.Step.{steppedOf, storedOf, Steps}
+use Rattle.inplace.specs.declared.Clocked.{Clocked}
+use Rattle.inplace.specs.Clocked.{StepsInPlace}
 use Rattle.clock.specs.Fold.{World, world}
-use Rattle.stream.specs.Run.{ranOf}
+use Rattle.settle.specs.declared.Settled.{Settled}
+use Rattle.settle.specs.Settle.{settledOf, imageSettled, Settles}
+use Rattle.stream.specs.Run.{report, ran, ranOf}
 
--- a history is any list of clocks and changes of times
+-- what befalls a device is a list of clocks and changes of times
 pub data Event : Type 0 where
   clock : ℕ → Event
   retime : ℕ → ℕ → ℕ → Event
@@ -32,6 +40,54 @@ after (retime program slice pause) w = world (timesSet (w .device) program slice
 abbrev pub ending : List Event → World → World
 ending [] w = w
 ending (e ∷ es) w = ending es (after e w)
+
+-- a history is any list of the calls that clock a device or change it, each with what is handed in beside them
+pub data Act : Type 0 where
+  step : ℕ → Act
+  stepInPlace : ℕ → Act
+  setTimes : ℕ → ℕ → ℕ → Act
+  settle : ℕ → ℕ → Act
+
+-- device and image as a call leaves them, whether it is done or refused
+abbrev pub left : Act → World → World
+left (step sample) w = after (clock sample) w
+left (stepInPlace sample) w = after (clock sample) w
+left (setTimes program slice pause) w = after (retime program slice pause) w
+left (settle sample limit) w =
+    world (settledOf (w .device) (w .image) sample limit .device) (imageSettled (w .device) (w .image) sample limit)
+
+abbrev pub leaving : List Act → World → World
+leaving [] w = w
+leaving (a ∷ others) w = leaving others (left a w)
+
+-- and so the calls promise, the step in place among them
+pub record LeavesAsPromised (w : World) : Type 0 where
+  pub stepped : (sample : ℕ) (r : Stepped) (later : List ℕ)
+      → Steps (w .device) (w .image) sample r later
+      → world (r .device) later ≡ left (step sample) w
+  pub steppedInPlace : (sample : ℕ) (r : Clocked) (next : Device) (later : List ℕ)
+      → StepsInPlace (w .device) (w .image) sample r next later
+      → world next later ≡ left (stepInPlace sample) w
+  pub retimed : (program slice pause : ℕ) (r : Powered)
+      → SetsTimes (w .device) program slice pause r
+      → world (r .device) (w .image) ≡ left (setTimes program slice pause) w
+  pub settled : (sample limit : ℕ) (r : Settled) (later : List ℕ)
+      → Settles (w .device) (w .image) sample limit r later
+      → world (r .device) later ≡ left (settle sample limit) w
+
+unfoldable pub ActsAsPromised : Type 0
+ActsAsPromised = (w : World) → LeavesAsPromised w
+
+-- what befalls the device in a call: in a settle as many clocks as it counts, none where it is refused
+abbrev pub befalls : Act → World → List Event
+befalls (step sample) w = clock sample ∷ []
+befalls (stepInPlace sample) w = clock sample ∷ []
+befalls (setTimes program slice pause) w = retime program slice pause ∷ []
+befalls (settle sample limit) w = replicate (settledOf (w .device) (w .image) sample limit .count) (clock sample)
+
+abbrev pub events : List Act → World → List Event
+events [] w = []
+events (a ∷ others) w = befalls a w ++ events others (left a w)
 
 -- power-up, on the image as it is then
 abbrev pub atPowerUp : ℕ → ℕ → ℕ → ℕ → List ℕ → World
@@ -141,37 +197,77 @@ abbrev pub doneInOrder : List Acceptance → List ℕ → List ℕ
 doneInOrder [] x = x
 doneInOrder (e ∷ es) x = doneInOrder es (cond (isFinished (e .fate)) (whole (e .operation) x) x)
 
+-- the operations of a block in a history of calls
+abbrev pub operationsIn : ℕ → List Act → World → List Acceptance
+operationsIn block history w = operations block (events history w) w
+
+-- what a history of calls leaves is what befalls the device in them, clock by clock
+unfoldable pub CallsAreClocks : Type 0
+CallsAreClocks =
+    (straps program slice pause : ℕ) (image : List ℕ) (history : List Act)
+    → length image ≡ 1048576
+    → leaving history (atPowerUp straps program slice pause image)
+    ≡ ending (events history (atPowerUp straps program slice pause image)) (atPowerUp straps program slice pause image)
+
 -- demand 3: a block with no mark and no unfinished operation holds what its first contents become
 unfoldable pub Demand3 : Type 0
 Demand3 =
-    (straps program slice pause : ℕ) (image : List ℕ) (history : List Event) (block : ℕ)
+    (straps program slice pause : ℕ) (image : List ℕ) (history : List Act) (block : ℕ)
     → length image ≡ 1048576
     → block < 16
-    → marked (ending history (atPowerUp straps program slice pause image) .device .controller .marks) block ≡ false
-    → isThere block (ending history (atPowerUp straps program slice pause image)) ≡ false
-    → contents block (ending history (atPowerUp straps program slice pause image) .image)
-    ≡ doneInOrder (operations block history (atPowerUp straps program slice pause image)) (contents block image)
+    → marked (leaving history (atPowerUp straps program slice pause image) .device .controller .marks) block ≡ false
+    → isThere block (leaving history (atPowerUp straps program slice pause image)) ≡ false
+    → contents block (leaving history (atPowerUp straps program slice pause image) .image)
+    ≡ doneInOrder (operationsIn block history (atPowerUp straps program slice pause image)) (contents block image)
 
 -- and each of its operations was allowed as pins, voltage and lock register stood at its acceptance
 unfoldable pub Demand3Allowed : Type 0
 Demand3Allowed =
-    (straps program slice pause : ℕ) (image : List ℕ) (history : List Event) (block : ℕ)
+    (straps program slice pause : ℕ) (image : List ℕ) (history : List Act) (block : ℕ)
     → length image ≡ 1048576
     → block < 16
-    → allAllowed block (operations block history (atPowerUp straps program slice pause image)) ≡ true
+    → allAllowed block (operationsIn block history (atPowerUp straps program slice pause image)) ≡ true
 
--- the status register tells of no operation: bit 7 is 1, bits 6 and 2 are 0
-abbrev pub tellsNone : ℕ → Bool
-tellsNone status =
-    cond (eqb (status / 128 % 2) 1) (cond (eqb (status / 64 % 2) 0) (eqb (status / 4 % 2) 0) false) false
-
--- the same of a run, by what the host is told: its samples are a history of clocks from power-up
+-- the same of a run, block by block: its samples are a history of steps from power-up, and what stands on other blocks is
+-- not asked
 unfoldable pub Demand3Run : Type 0
 Demand3Run =
     (image stream answers : List ℕ) (straps program slice pause : ℕ) (block : ℕ)
     → block < 16
     → ranOf image stream answers straps program slice pause .report .number ≡ 0
     → marked (ranOf image stream answers straps program slice pause .report .marks) block ≡ false
+    → isThere block (leaving (map step (samples stream)) (atPowerUp straps program slice pause image)) ≡ false
+    → contents block (ranOf image stream answers straps program slice pause .image)
+    ≡ doneInOrder (operationsIn block (map step (samples stream)) (atPowerUp straps program slice pause image)) (contents block image)
+
+-- the status register tells of no operation: bit 7 is 1, bits 6 and 2 are 0
+abbrev pub tellsNone : ℕ → Bool
+tellsNone status =
+    cond (eqb (status / 128 % 2) 1) (cond (eqb (status / 64 % 2) 0) (eqb (status / 4 % 2) 0) false) false
+
+-- and by what the host is told of the run
+unfoldable pub Demand3Told : Type 0
+Demand3Told =
+    (image stream answers : List ℕ) (straps program slice pause : ℕ) (block : ℕ)
+    → block < 16
+    → ranOf image stream answers straps program slice pause .report .number ≡ 0
+    → marked (ranOf image stream answers straps program slice pause .report .marks) block ≡ false
     → tellsNone (ranOf image stream answers straps program slice pause .report .status) ≡ true
     → contents block (ranOf image stream answers straps program slice pause .image)
-    ≡ doneInOrder (operations block (map clock (samples stream)) (atPowerUp straps program slice pause image)) (contents block image)
+    ≡ doneInOrder (operationsIn block (map step (samples stream)) (atPowerUp straps program slice pause image)) (contents block image)
+
+-- a run that is done is its samples stepped one by one: their number, their answers with the bytes past them as lent, the
+-- status and the marks of the last device, and the image
+abbrev pub answering : List ℕ → World → List ℕ
+answering [] w = []
+answering (s ∷ ss) w = steppedOf (w .device) (w .image) s .answer ∷ answering ss (after (clock s) w)
+
+unfoldable pub RunIsSteps : Type 0
+RunIsSteps =
+    (image stream answers : List ℕ) (straps program slice pause : ℕ)
+    → ranOf image stream answers straps program slice pause .report .number ≡ 0
+    → let start = atPowerUp straps program slice pause image in
+    let end = leaving (map step (samples stream)) start in
+    ranOf image stream answers straps program slice pause
+    ≡ ran (report 0 (length (samples stream)) (statusOf (end .device .controller)) (end .device .controller .marks)) (end .image)
+    (answering (samples stream) start ++ drop (length (samples stream)) answers)
