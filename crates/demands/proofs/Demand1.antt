@@ -363,7 +363,7 @@ unfolding listed pieceShown canShow readLocked
 numbers-shown d image page block =
     either-listed (canShow d image page block) (readLocked d block) (piece 2 0 65536) (piece 1 (block * 65536) 65536) (piece 0 0 0)
 
--- what a call gives that is done
+-- what a call that is done gives
 done-row : (c : Call) → outcome c (promised c) .number ≡ 0 → Right c (promised c)
 unfolding promised poweredUp powerRefused timesSet steppedOf storedOf stepNumber readOf writeOf laid statusTold marksTold
 done-row (powerUp straps program slice pause) = pick (ask (ltb 15 straps)) (ask (timesFit (times program slice pause)))

@@ -725,6 +725,9 @@ module _ (w : World) (s byte a : ℕ) (l : frameLine s ≡ 1) (e : w .device .fr
       let x : lines byte % 16 ≡ lines byte = omega arith in
       rw e (last-nibble (w .device .straps) (lines byte) a s (rw l) ∙ ap (λ (n : ℕ). frame 2 12 (n + 16 * lines s) a) x)
 
+  asks : askedOf (broken.framed w s) ≡ Write a (lines byte + 16 * lines s)
+  asks = ap askedOf act-clock ∙ acts-on-12 (lines byte + 16 * lines s) a
+
   acts : isReset s ≡ false → SameButForFrame (onward w s .device) (reachedOf (afterController (w .device)) s a (lines byte + 16 * lines s) .device)
   unfolding onward deviceClock servedOf
   acts r =
@@ -753,7 +756,8 @@ write-acts d image first others later low e n len own h =
 
     Acts : List ℕ → Type 0
     Acts ss =
-        SameButForFrame (through ss (world d image) .device)
+        (askedOf (broken.framed (through (take 11 ss) (world d image)) (getD ss 11 0)) ≡ Write (addressIn ss) (dataIn ss))
+        × SameButForFrame (through ss (world d image) .device)
         (reachedOf (afterController (through (take 11 ss) (world d image) .device)) (getD ss 11 0) (addressIn ss) (dataIn ss) .device)
         × SameBehindTheBus (through (ss ++ later) (world d image)) (unheard later (through ss (world d image)))
 
@@ -772,6 +776,7 @@ write-acts d image first others later low e n len own h =
         let q = calm-back ss (x ∷ y ∷ []) k in
         let m = calm-others x (y ∷ []) q in
         let j = lower w x to (calm-line x (y ∷ []) q) (calm-up x (y ∷ []) q) (rw ours at p) in (
+          asks (onward w x) y x to (calm-line y [] m) j,
           acts (onward w x) y x to (calm-line y [] m) j (calm-up y [] m),
           silent-behind (first ∷ (ss ++ (x ∷ y ∷ []))) later (world d image) h (acts-behind (onward w x) y x to (calm-line y [] m) j (calm-up y [] m)),
         )

@@ -555,10 +555,35 @@ counts d = (λ m. rw m, λ m. pick m (ask (isAbsent (d .controller .inner))) (co
     pick m (yes i) k = rw (m, i) (k, refl, refl, refl, refl)
     pick m (no i) k = rw (m, i) (k, refl, refl, refl, refl)
 
+-- straps and times stay on every clock
+reached-fixed : (d : Device) (sample address byte : ℕ)
+    → (reachedOf d sample address byte .device .straps ≡ d .straps) × (reachedOf d sample address byte .device .times ≡ d .times)
+unfolding reachedOf
+reached-fixed d sample address byte = elim (ask (isArray address)) [ yes x ↦ rw x (refl, refl) | no x ↦ rw x (refl, refl) ]
+
+answered-fixed : (asked : Asked) (d : Device) (late : List ℕ) (sample : ℕ)
+    → (answeredTo asked d late sample .device .straps ≡ d .straps) × (answeredTo asked d late sample .device .times ≡ d .times)
+answered-fixed Silent d late sample = (refl, refl)
+answered-fixed (Read address) d late sample = (refl, refl)
+answered-fixed (Write address byte) d late sample = reached-fixed d sample address byte
+
+fixed : (d : Device) (image : List ℕ) (sample : ℕ)
+    → (deviceClock d image sample .device .straps ≡ d .straps) × (deviceClock d image sample .device .times ≡ d .times)
+unfolding deviceClock servedOf resetDevice
+fixed d image sample = pick (ask (isReset sample))
+  where
+    pick : Answer (isReset sample)
+        → (deviceClock d image sample .device .straps ≡ d .straps) × (deviceClock d image sample .device .times ≡ d .times)
+    pick (yes r) = rw r (refl, refl)
+    pick (no r) =
+        rw r
+        (answered-fixed (askedOn d sample) (withFrame (afterController d) (frameClock (d .straps) (d .frame) sample)) (applied (controllerClock (d .controller) .effect) image) sample)
+
 pub times-bind-later : TimesBindLater
 unfolding TimesBindLater
 times-bind-later d image program slice pause sample ts =
-    (set-keeps d program slice pause .controller, sym (alone (d .straps) (d .locks) (d .locks) (d .times) ts (d .frame) (unset d .controller) image sample sample refl refl))
+    let k = fixed d image sample in
+    (set-keeps d program slice pause .controller, sym (alone (d .straps) (d .locks) (d .locks) (d .times) ts (d .frame) (unset d .controller) image sample sample refl refl), k .0, k .1)
 
 -- ---- What it does to the array
 

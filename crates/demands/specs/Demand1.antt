@@ -1,5 +1,5 @@
--- Demand 1: one list of the calls with what each promises, one table of their refusals, what a refusal leaves, and where a
--- settle stops. The block view, status and marks give no number: it is 0 there. Assumes nothing.
+-- Demand 1: one list of the calls with what each promises, one table of their refusals, what a refusal leaves, where a settle
+-- stops, and what a call that is done gives. The block view, status and marks give no number: it is 0 there. Assumes nothing.
 use Prim.Native.Nat.{ℕ, zero, suc, _*_, _/_, _%_, _≤_, _<_}
 use mathlib.Core.Path.{_≡_}
 use mathlib.Core.Bool.{Bool, true, false, cond, not, _&&_, _||_}
@@ -258,7 +258,7 @@ SettleStops =
     → isIdleSample sample ≡ true
     → StopsRight sample limit (world d image) (r .number) (r .count) (world (r .device) later)
 
--- what a call gives that is done. Of a settle `SettleStops` says it, of a run `RunIsSteps`
+-- what a call that is done gives. Of a settle `SettleStops` says it, of a run `RunIsSteps`
 abbrev pub Right : (c : Call) → Given c → Type 0
 Right (powerUp straps program slice pause) r = r .device ≡ freshOf straps (times program slice pause)
 Right (setTimes d program slice pause) r =
@@ -296,5 +296,6 @@ Right (viewBlockAsNumbers d image page block) r =
 Right (tellStatus d) r = r ≡ cond (soundOf d) (statusOf (d .controller)) 0
 Right (tellMarks d) r = r ≡ cond (soundOf d) (d .controller .marks) 0
 
+-- so it is of every call
 unfoldable pub Done : Type 0
 Done = (c : Call) (g : Given c) → Promised c g → outcome c g .number ≡ 0 → Right c g

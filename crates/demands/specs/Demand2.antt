@@ -16,7 +16,8 @@ use Rattle.part.specs.Fresh.{freshOf}
 use Rattle.soundness.specs.Sound.{allBelow, soundOf}
 use Rattle.status.specs.Status.{statusOf}
 use Rattle.operation.specs.Clock.{active, isStill}
-use Rattle.bus.specs.Frames.{begun}
+use Rattle.bus.specs.declared.Asked.the-variants.{Write}
+use Rattle.bus.specs.Frames.{begun, frameClock, askedOf}
 use Rattle.access.specs.Read.{isArray, arrayAddress, registerValue, valueOf}
 use Rattle.access.specs.Write.{reachedOf}
 use Rattle.clock.specs.Clock.{withFrame, afterController, deviceClock, imageAfter}
@@ -153,8 +154,8 @@ BrokenOffGivesNothing =
     × (through (first ∷ (others ++ (last ∷ []))) (world d image) .device .frame
     ≡ cond (isReset last) idle (begun (lines last)))
 
--- a frame gives no command either that is no write for this part (a read, another first nibble, other straps, another
--- size), or has not come to its clock 12, or was cut off by a reset on clock 12 or before
+-- a frame that is no write for this part (a read, another first nibble, other straps, another size), or has not come to its
+-- clock 12, or was cut off by a reset on clock 12 or before, gives no command either
 unfoldable pub OtherFramesGiveNothing : Type 0
 OtherFramesGiveNothing =
     (d : Device) (image : List ℕ) (first : ℕ) (others : List ℕ)
@@ -168,9 +169,10 @@ OtherFramesGiveNothing =
     ≡ false
     → SameBehindTheBus (through (first ∷ others) (world d image)) (unheard (first ∷ others) (world d image))
 
--- a write acts as soon as its last data nibble is in, on clock 12, by that sample and after the controller's part of that
--- clock; and whatever comes on the clocks after it, an abort of its turnaround included, takes nothing back: no other
--- write can end within eleven clocks, and they are as with the bus idle
+-- a write for this part asks for its byte to be written to its address as soon as its last data nibble is in, on clock 12,
+-- and acts then, by that sample and after the controller's part of that clock. Whatever comes on the bus in the eleven
+-- clocks after it, an abort of its turnaround included, takes nothing back: no other write can end within them, and they
+-- are as with the bus idle
 unfoldable pub WriteActs : Type 0
 WriteActs =
     (d : Device) (image : List ℕ) (first : ℕ) (others later : List ℕ)
@@ -180,9 +182,12 @@ WriteActs =
     → length others ≡ 11
     → isFor 14 (d .straps) (first ∷ others) ≡ true
     → length later ≤ 11
-    → SameButForFrame
+    → let before = through (take 11 (first ∷ others)) (world d image) .device in
+    (askedOf (frameClock (before .straps) (before .frame) (getD (first ∷ others) 11 0))
+    ≡ Write (addressIn (first ∷ others)) (dataIn (first ∷ others)))
+    × SameButForFrame
     (through (first ∷ others) (world d image) .device)
-    (reachedOf (afterController (through (take 11 (first ∷ others)) (world d image) .device))
+    (reachedOf (afterController before)
     (getD (first ∷ others) 11 0) (addressIn (first ∷ others)) (dataIn (first ∷ others)) .device)
     × SameBehindTheBus
     (through ((first ∷ others) ++ later) (world d image))

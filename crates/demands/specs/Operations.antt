@@ -1,5 +1,5 @@
 -- Demand 2 of operations: how one starts, counts, pauses, resumes and ends, what it does to the array, what a reset does, and
--- when marks and error bits change. Assumes nothing.
+-- when marks, error bits and lock registers change. Assumes nothing.
 use Prim.Native.Nat.{ℕ, _+_, _-_, _*_, _/_, _%_, _≤_, _<_}
 use mathlib.Core.Path.{_≡_}
 use mathlib.Core.Bool.{Bool, true, false, cond, not, _&&_, _||_}
@@ -74,7 +74,8 @@ acceptedAs ts setup (Write address byte) =
     (operation 2 0 byte (arrayAddress address) 256 (ts .slice .0 * 33) 0 ts)
 
 -- what a byte written to the array outside a setup makes of the operation that stands: B0h asks a running one for its pause,
--- by its own copy of the time; D0h resumes a suspended one; a program inside a suspended erase is left alone
+-- by its own copy of the time; D0h resumes a suspended one; while a program is inside a suspended erase, the erase is left
+-- alone
 abbrev pub commanded : Controller → Asked → Operation
 commanded c Nothing = c .outer
 commanded c (Read address) = c .outer
@@ -85,7 +86,7 @@ commanded c (Write address byte) =
     (cond (eqb byte 0xD0 && (not (isRunning o) && not (isPausing o))) (withPause o 0 (o .pause)) o))
     o
 
--- the bus's part of a clock, after the controller's. Where permission is judged and nothing fails an operation starts, inside
+-- the bus's part of a clock, after the controller's. Where permission is judged and nothing fails, an operation starts, inside
 -- a suspended erase where one stands, and the setup ends; else a byte that ends a setup starts nothing. Outside a setup a
 -- byte written to the array pauses or resumes what stands, and any other clock leaves the controller as it is
 unfoldable pub Starts : Type 0
@@ -120,7 +121,7 @@ pub record CountsOn (o next : Operation) : Type 0 where
   pub pauses : isLast o ≡ false → isPausing o ≡ true → 1 < o .pause .0 → (next .state ≡ 1) × (next .pause .0 ≡ o .pause .0 - 1)
   pub suspends : isLast o ≡ false → isPausing o ≡ true → o .pause .0 ≤ 1 → next .state ≡ 2
 
--- the controller's part of a clock: where an operation counts, that one, and mode, error bits, setup and the other
+-- the controller's part of a clock: where an operation counts, that one goes on, and mode, error bits, setup and the other
 -- operation stay; where none does, all stays
 unfoldable pub Counts : Type 0
 Counts =
@@ -135,13 +136,15 @@ Counts =
     × (next .errors ≡ c .errors)
     × (next .setup ≡ c .setup))
 
--- set times leaves every operation as it is, and an operation counts, pauses and resumes by its own copy: outside a setup a
--- clock does not look at the device's times
+-- set times leaves every operation as it is, and an operation counts, pauses and resumes by its own copy: what a clock outside
+-- a setup makes of the controller does not depend on the device's times. And no clock changes straps or times
 unfoldable pub TimesBindLater : Type 0
 TimesBindLater =
     (d : Device) (image : List ℕ) (program slice pause sample : ℕ) (ts : Times)
     → (timesSet d program slice pause .device .controller ≡ d .controller)
     × (deviceClock (withTimes (unset d) ts) image sample .device .controller ≡ deviceClock (unset d) image sample .device .controller)
+    × (deviceClock d image sample .device .straps ≡ d .straps)
+    × (deviceClock d image sample .device .times ≡ d .times)
 
 -- the image changes only by the operation that counts, and in its own block
 unfoldable pub ImageChanges : Type 0
@@ -226,8 +229,8 @@ ErrorBits =
     (bitOr (d .controller .errors)
     (cond (leavesUnconfirmed c asked) 0x30 (cond (isJudged c asked) (failure c (d .locks) sample asked) 0))))
 
--- lock registers: a reset makes them 01h; a byte written to FB00002h + b times 10000h sets bits 0 to 2 of block b's while its
--- lock-down bit, bit 1, is 0; and no other clock changes one
+-- lock registers: a reset makes them 01h; bits 0 to 2 of a byte written to FB00002h + b times 10000h become block b's while
+-- its lock-down bit, bit 1, is 0; and no other clock changes one
 abbrev pub writesTo : ℕ → Asked → Bool
 writesTo place Nothing = false
 writesTo place (Read address) = false

@@ -21,12 +21,14 @@ use Rattle.settle.specs.Settle.{settledOf}
 use Rattle.demands.specs.Operations.{unset, askedOn, isJudged, failure}
 use Rattle.demands.specs.History.{Act, step, setTimes, settle, left, leaving, atPowerUp}
 
--- the sample with other pins: TBL, WP, the voltage class and the inputs are its bits 7 to 15
+-- the sample with other pins: TBL, WP, the voltage class and the inputs are its bits 7 to 15. RP and INIT, bits 5 and 6, are
+-- never meant here
 abbrev pub repinned : ℕ → ℕ → ℕ
 repinned pins sample = sample % 128 + 128 * pins
 
--- of one operation, of any device whatever: outside a setup a clock, which takes an operation on, pauses, resumes or ends it,
--- looks at no pin, voltage, input or lock register; and what a clock does to the array does not either, in a setup too
+-- of one operation, of any device whatever: what a clock outside a setup makes of the controller, whose operation counts,
+-- pauses, resumes or ends on it, depends on no TBL, WP, voltage, input or lock register; nor does what any clock does to
+-- the array
 unfoldable pub LooksAtNoPin : Type 0
 LooksAtNoPin =
     (d : Device) (image locks : List ℕ) (sample pins : ℕ)
@@ -48,7 +50,7 @@ StandingOperation =
     × (one .marks ≡ two .marks)
     × (storedOf d image sample ≡ storedOf (withLocks d locks) image (repinned pins sample))
 
--- a moment of a history: a step or a settle, with the lock registers as they stand then, or a change of times. A history
+-- a moment of a history: a step or a settle, with any lock registers put in place before it, or a change of times. A history
 -- as it comes is the one in which each moment finds the lock registers that the last has left
 pub data Moment : Type 0 where
   tick : ℕ → List ℕ → Moment
@@ -85,8 +87,8 @@ readied (change program slice pause) w = w
 abbrev pub past : Moment → World → World
 past m w = left (actOf m) (readied m w)
 
--- what falls out of a judgement on the clock of each step: the error bit, 0 where nothing fails or nothing is judged. None is
--- judged inside a settle: it repeats its sample only while an operation counts, and no setup stands beside one
+-- how a judgement on the clock of a step falls out: its error bit, 0 where nothing fails or nothing is judged. None is judged
+-- inside a settle: it repeats its sample only while an operation counts, and no setup stands beside one
 abbrev pub fallsOut : Device → ℕ → ℕ
 fallsOut d sample =
     let c = afterController d .controller in
@@ -99,12 +101,13 @@ judgements (tick sample locks ∷ ms) w = fallsOut (withLocks (w .device) locks)
 judgements (wait sample limit locks ∷ ms) w = judgements ms (past (wait sample limit locks) w)
 judgements (change program slice pause ∷ ms) w = judgements ms (past (change program slice pause) w)
 
--- the operation that counted before has come to its end: it is gone, and no reset cut it off
+-- a reset cuts off what counts
 abbrev pub cuts : Moment → Bool
 cuts (tick sample locks) = isReset sample
 cuts (wait sample limit locks) = false
 cuts (change program slice pause) = false
 
+-- the operation that counted before has come to its end: it is gone, and no reset cut it off
 abbrev pub hasEnded : Moment → Controller → Controller → Bool
 hasEnded m before later =
     cond (cuts m) false
