@@ -1,49 +1,113 @@
--- A lookup at a place of a table: it hits there, or goes on from the next place. And in the table of the registers: of
--- the sixteen locks only the entry whose place is read off the address can stand there. Assumes nothing.
+-- Request #103: base plus block times 10000h finds what the list of the nineteen has. It does at each entry, by one
+-- computed test; so an entry stands nowhere that it finds nothing, and what it finds is the entry at that address.
+-- Assumes nothing.
 use mathlib.Core.Path.{_≡_, _∙_, ap, sym, refl}
-use mathlib.Core.List.{List}
-use Prim.Native.Nat.{ℕ, zero, suc, _+_, _<_, _≤_, _/_, _%_}
-use native.Mathlib.Numerals.{add-one}
+use mathlib.Core.Bool.{Bool, true, false, cond}
+use Prim.Native.Nat.{ℕ, _+_, _-_, _/_, _%_, _<_}
 use native.Mathlib.Omega.{arith}
-use lib.ListN.{length, getD, drop}
-use lib.Seq.{drop-cons}
-use borrow.Author.Tests.{eq-eqb, ne-eqb}
+use lib.ListN.{getD}
+use lib.Dec.{eqb, ltb}
+use borrow.Author.Tests.{eqb-true, ltb-true, ltb-false}
 use Rattle.part.specs.declared.Entry.{Entry}
-use Rattle.part.specs.Registers.{registers, firstAt, registerAt}
+use Rattle.part.specs.declared.Register.{Register}
+use Rattle.part.specs.declared.Register.the-variants.{Lock, Inputs, MakerCode, DeviceCode, Missing}
+use Rattle.part.specs.Registers.{lockAddress, registers, registerAt}
+use Rattle.part.specs.Rule.{registerFrom}
+use Rattle.basics.proofs.Rules.{clash}
 use Rattle.basics.proofs.Table.{at}
+use Rattle.part.proofs.Rule.{lock-at, others-at, none-at}
 
-module _ (t : List Entry) (i a : ℕ) (d : Entry) (h : i < length t) where
-  pub hit : getD t i d .at ≡ a → firstAt (drop i t) a ≡ getD t i d .what
-  hit e = rw (drop-cons t i d h, eq-eqb _ _ e)
+-- the rule at the part's base
+abbrev base : ℕ
+base = 0xFB00000
 
-  pub miss : (getD t i d .at ≡ a → ⊥) → firstAt (drop i t) a ≡ firstAt (drop (i + 1) t) a
-  miss n = rw (drop-cons t i d h, ne-eqb _ _ n, add-one)
+abbrev ruledAt : ℕ → Register
+ruledAt = registerFrom base
 
--- n entries of which none stands at the address can be left out
-skip : (t : List Entry) (n a : ℕ) (d : Entry)
-    → n ≤ length t
-    → ((j : ℕ) → j < n → getD t j d .at ≡ a → ⊥)
-    → firstAt (drop n t) a ≡ firstAt t a
-skip t zero a d h f = refl
-skip t (suc n) a d h f =
-    rw (← add-one n) (sym (miss t n a d h (f n (omega arith))))
-    ∙ skip t n a d (omega arith) (λ j l. f j (omega arith))
+abbrev nothing : Entry
+nothing = record { at = 0; what = Missing }
 
--- the one block whose lock can stand at an address
-abbrev named : ℕ → ℕ
-named address = address / 0x10000 % 16
+-- it finds each of the nineteen where it stands
+entry-ruled : (k : ℕ) (d : Entry) → k < 19 → ruledAt (getD registers k d .at) ≡ getD registers k d .what
+unfolding registerFrom
+entry-ruled k d h =
+    sym (at (λ (i : ℕ). ruledAt (getD registers i d .at)) 19 k Missing h)
+    ∙ at (λ (i : ℕ). getD registers i d .what) 19 k Missing h
 
-module _ (a : ℕ) (d : Entry) where
-  lock-named : (j : ℕ) → j < 16 → getD registers j d .at ≡ a → j ≡ named a
-  lock-named j h e =
-      sym (at (λ (k : ℕ). k) 16 j 0 h) ∙ at (λ (k : ℕ). named (getD registers k d .at)) 16 j 0 h ∙ ap named e
+-- none of which is nothing
+abbrev isFound : Register → Bool
+isFound (Lock b) = true
+isFound Inputs = true
+isFound MakerCode = true
+isFound DeviceCode = true
+isFound Missing = false
 
-  pub lock-hit : getD registers (named a) d .at ≡ a → getD registers (named a) d .what ≡ registerAt a
-  unfolding registerAt
-  lock-hit e =
-      sym (hit registers (named a) a d (omega arith) e)
-      ∙ skip registers (named a) a d (omega arith) (λ j l f. omega (arith, lock-named j (omega arith) f))
+entry-found : (k : ℕ) (d : Entry) → k < 19 → isFound (getD registers k d .what) ≡ true
+entry-found k d h =
+    sym (at (λ (i : ℕ). isFound (getD registers i d .what)) 19 k true h) ∙ at (λ (i : ℕ). true) 19 k true h
 
-  pub lock-miss : (getD registers (named a) d .at ≡ a → ⊥) → firstAt (drop 16 registers) a ≡ registerAt a
-  unfolding registerAt
-  lock-miss n = skip registers 16 a d (omega arith) (λ j l e. n (rw (lock-named j l e) at e))
+-- one test of a rule
+asked : {G : Type 0} (r : Register) (t : Bool) (x y : Register)
+    → r ≡ cond t x y
+    → (t ≡ true → r ≡ x → G)
+    → (t ≡ false → r ≡ y → G)
+    → G
+asked r true x y e f g = f refl e
+asked r false x y e f g = g refl e
+
+module _ (a : ℕ) where
+  abbrev block : ℕ
+  block = (a - base) / 0x10000
+
+  abbrev low : ℕ
+  low = (a - base) % 0x10000
+
+  -- where it finds nothing no entry stands
+  none : ruledAt a ≡ Missing → ruledAt a ≡ registerAt a
+  none m =
+      m
+      ∙ sym
+      (none-at a nothing (λ k h e.
+      clash (ap isFound (sym m ∙ sym (ap ruledAt e) ∙ entry-ruled k nothing h) ∙ entry-found k nothing h)))
+
+  -- and where it finds one, the address is that one's
+  lock : ltb a base ≡ false → ltb block 16 ≡ true → eqb low 2 ≡ true → ruledAt a ≡ Lock block → ruledAt a ≡ registerAt a
+  lock above inside two e =
+      let i : lockAddress block ≡ a = omega (arith, ltb-false a base above, eqb-true low 2 two) in
+      e ∙ sym (lock-at block (ltb-true block 16 inside)) ∙ ap registerAt i
+
+  own : (k : ℕ) (r : Register)
+      → registerAt (0xFBC0000 + k) ≡ r
+      → ltb a base ≡ false
+      → eqb block 12 ≡ true
+      → eqb low k ≡ true
+      → ruledAt a ≡ r
+      → ruledAt a ≡ registerAt a
+  own k r stands above twelve there e =
+      let i : 0xFBC0000 + k ≡ a = omega (arith, ltb-false a base above, eqb-true block 12 twelve, eqb-true low k there) in
+      e ∙ sym stands ∙ ap registerAt i
+
+  pub ruled : ruledAt a ≡ registerAt a
+  unfolding registerFrom
+  ruled =
+      asked _ (ltb a base) _ _ refl
+      (λ t. none)
+      (λ above e.
+      asked _ (ltb block 16) _ _ e
+      (λ inside e.
+      asked _ (eqb low 2) _ _ e
+      (λ t. lock above inside t)
+      (λ t e.
+      asked _ (eqb block 12) _ _ e
+      (λ twelve e.
+      asked _ (eqb low 0x100) _ _ e
+      (λ t. own 0x100 Inputs (others-at .0) above twelve t)
+      (λ t e.
+      asked _ (eqb low 0) _ _ e
+      (λ t. own 0 MakerCode (others-at .1) above twelve t)
+      (λ t e.
+      asked _ (eqb low 1) _ _ e
+      (λ t. own 1 DeviceCode (others-at .2) above twelve t)
+      (λ t. none))))
+      (λ t. none)))
+      (λ t. none))

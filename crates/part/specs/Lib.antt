@@ -1,2 +1,3 @@
 pub mod Fresh
 pub mod Registers
+pub mod Rule

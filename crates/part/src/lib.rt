@@ -1,4 +1,4 @@
-// The part: its fixed numbers, its fresh device, its blocks and the table of its registers.
+// The part: its fixed numbers, its fresh device, its blocks and the rule of its registers.
 use record::Controller;
 use record::Device;
 use record::idle_frame;
@@ -8,6 +8,7 @@ ghost use mathlib.Core.Path.{_≡_};
 ghost use Rattle.record.specs.Record.{blockOf};
 ghost use Rattle.part.specs.Fresh.{resting, freshOf};
 ghost use Rattle.part.specs.Registers.{registerAt};
+ghost use Rattle.part.specs.Rule.{registerFrom};
 
 // The M50FW080.
 pub struct Part;
@@ -24,6 +25,9 @@ impl Part {
     pub const BLOCK_BYTES: u32 = 65536;
 
     pub const TOP_BLOCK: u32 = 15;
+
+    // Where its registers begin.
+    pub const REGISTERS: u32 = 0xFB00000;
 
     // A controller at rest: reading the array, no error bits, no setup, no operation.
     pub fn resting(marks: u16) -> Controller
@@ -72,112 +76,47 @@ pub enum Register {
     Missing,
 }
 
+// An entry of the list of registers that says what a lookup means. No code holds one.
 pub struct Entry {
     pub at: u32,
     pub what: Register,
 }
 
-// The nineteen registers at their fixed addresses.
-const REGISTERS: [Entry; 19] = [
-    Entry {
-        at: 0xFB00002,
-        what: Register::Lock(0),
-    },
-    Entry {
-        at: 0xFB10002,
-        what: Register::Lock(1),
-    },
-    Entry {
-        at: 0xFB20002,
-        what: Register::Lock(2),
-    },
-    Entry {
-        at: 0xFB30002,
-        what: Register::Lock(3),
-    },
-    Entry {
-        at: 0xFB40002,
-        what: Register::Lock(4),
-    },
-    Entry {
-        at: 0xFB50002,
-        what: Register::Lock(5),
-    },
-    Entry {
-        at: 0xFB60002,
-        what: Register::Lock(6),
-    },
-    Entry {
-        at: 0xFB70002,
-        what: Register::Lock(7),
-    },
-    Entry {
-        at: 0xFB80002,
-        what: Register::Lock(8),
-    },
-    Entry {
-        at: 0xFB90002,
-        what: Register::Lock(9),
-    },
-    Entry {
-        at: 0xFBA0002,
-        what: Register::Lock(10),
-    },
-    Entry {
-        at: 0xFBB0002,
-        what: Register::Lock(11),
-    },
-    Entry {
-        at: 0xFBC0002,
-        what: Register::Lock(12),
-    },
-    Entry {
-        at: 0xFBD0002,
-        what: Register::Lock(13),
-    },
-    Entry {
-        at: 0xFBE0002,
-        what: Register::Lock(14),
-    },
-    Entry {
-        at: 0xFBF0002,
-        what: Register::Lock(15),
-    },
-    Entry {
-        at: 0xFBC0100,
-        what: Register::Inputs,
-    },
-    Entry {
-        at: 0xFBC0000,
-        what: Register::MakerCode,
-    },
-    Entry {
-        at: 0xFBC0001,
-        what: Register::DeviceCode,
-    },
-];
+// The register at an address, for a part whose registers begin at `base`: those of block b at base + b times 10000h. Each
+// block has its lock there, at 0002h, and block 12 the part's own three as well.
+fn register_from(base: u32, address: u32) -> Register
+    ensures { λ r. ⌜ r ≡ registerFrom base address ⌝ }
+{
+    if address < base {
+        return Register::Missing;
+    }
+    let offset = address - base;
+    let block = offset / Part::BLOCK_BYTES;
+    let low = offset % Part::BLOCK_BYTES;
+    if block >= Part::BLOCKS {
+        return Register::Missing;
+    }
+    if low == 0x0002 {
+        return Register::Lock(block as u8);
+    }
+    if block != 12 {
+        return Register::Missing;
+    }
+    if low == 0x0100 {
+        return Register::Inputs;
+    }
+    if low == 0x0000 {
+        return Register::MakerCode;
+    }
+    if low == 0x0001 {
+        return Register::DeviceCode;
+    }
+    Register::Missing
+}
 
-// The register at an address, `Missing` where none of the nineteen stands. The lock of block b is entry b, and b can be
-// read off its address: of the sixteen locks only that entry can stand there.
+// The register at an address, `Missing` where none of the nineteen stands.
 pub fn look_up(address: u32) -> Register
     ensures { λ r. ⌜ r ≡ registerAt address ⌝ }
 {
-    // once: each mention of a constant makes it anew
-    let table = REGISTERS;
-    let b = (address / 0x10000 % 16) as usize;
-    let lock = table[b];
-    if lock.at == address {
-        let w = lock.what;
-        return w;
-    }
-    let mut i: usize = 16;
-    while i < 19 {
-        let e = table[i];
-        if e.at == address {
-            let w = e.what;
-            return w;
-        }
-        i += 1;
-    }
-    Register::Missing
+    register_from(Part::REGISTERS, address)
 }
