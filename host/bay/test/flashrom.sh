@@ -25,8 +25,19 @@ stop() {
     [ "$got" -eq 0 ] || wrong "the server's status is $got: $(cat err)"
 }
 
-# flashrom goes on for ever where its programmer is gone, so it has a time
-updater() { timeout 3600 flashrom -p "serprog:ip=127.0.0.1:$port" "$@"; }
+# flashrom goes on for ever where its programmer is gone, so it has a time. A programmer that has not answered within a
+# second counts for it as a broken one, before it has asked for anything: where the machine is busy elsewhere it comes again.
+updater() {
+    comes=0
+    while comes=$((comes + 1)); do
+        timeout 3600 flashrom -p "serprog:ip=127.0.0.1:$port" "$@" >said 2>&1
+        came=$?
+        if [ $comes -eq 5 ] || ! grep -q 'Programmer initialization failed' said; then
+            cat said
+            return $came
+        fi
+    done
+}
 chip() { updater -c M50FW080 "$@"; }
 
 # put BLOCK FILE: that block of new.img from the file
