@@ -1,5 +1,6 @@
 /* Holds the library and the second model to one another on what stands at an address: a read and a write at every
- * address near a register, at each of these with any one bit of it another, and at a million others. */
+ * address near a register, at each of these with each one of its bits flipped, and at a million others; first step by
+ * step, then in runs. */
 #include "bus/addresses.h"
 #include "bus/frames.h"
 #include "bus/pins.h"
@@ -9,14 +10,13 @@
 #include "test/check.h"
 #include "test/lent.h"
 
-#include <stdlib.h>
 #include <string.h>
 
 enum {
     STRAPS = 9,
     REGISTERS = POD_BLOCKS + 3,
-    NEAR = 2,         /* so far from a register is near */
-    TURNS = 4,        /* an address near one is tried so often, with other locks each time */
+    NEAR = 2,         /* how far from a register still counts as near */
+    TURNS = 4,        /* an address near one is tried so often: bytes, inputs and, in steps, locks are others each time */
     RANDOM = 1000000, /* addresses of any 28 bits */
     BOTH_CLOCKS = FRAME_READ_CLOCKS + FRAME_WRITE_CLOCKS,
     RUN_SAMPLES = POD_STREAM_BYTES / 2
@@ -32,17 +32,12 @@ static uint8_t stream[POD_STREAM_BYTES];
 static uint8_t pod_answers[RUN_SAMPLES], model_answers[RUN_SAMPLES];
 static size_t samples;
 
-static uint32_t any_byte(void)
-{
-    return any_below(256);
-}
-
 /* The samples of a read and a write at an address, with inputs and a byte that nobody looked for. */
 static void lay_both(uint32_t address, uint16_t laid[BOTH_CLOCKS])
 {
     const uint16_t idle = sample_with_inputs(POD_SAMPLE_IDLE, any_below(32));
     const struct frame read = frame_read(STRAPS, address);
-    const struct frame write = frame_write(STRAPS, address, (uint8_t)any_byte());
+    const struct frame write = frame_write(STRAPS, address, (uint8_t)any_below(256));
     uint16_t clocks[FRAME_MOST_CLOCKS];
     frame_lay(&read, idle, clocks);
     memcpy(laid, clocks, FRAME_READ_CLOCKS * sizeof laid[0]);
@@ -64,8 +59,8 @@ static void step_both(uint32_t address)
     for (unsigned i = 0; i < BOTH_CLOCKS; i++) {
         uint8_t answer = 0;
         const struct pod_clocked clocked = pod_clock(&device, image.bytes, POD_IMAGE_BYTES, laid[i]);
-        model_step(&model, image.bytes, POD_IMAGE_BYTES, laid[i], &answer);
-        if (clocked.number != POD_DONE || clocked.answer != answer) {
+        const uint32_t number = model_step(&model, image.bytes, POD_IMAGE_BYTES, laid[i], &answer);
+        if (number != POD_DONE || clocked.number != POD_DONE || clocked.answer != answer) {
             fault("address %07X, sample %u: expected answer %02X, found number %u and answer %02X", (unsigned)address,
                   i, answer, (unsigned)clocked.number, (unsigned)clocked.answer);
         }
@@ -87,13 +82,15 @@ static void run_gathered(void)
                                           times.program, times.slice, times.pause);
     const struct model_report model =
         model_run(model_image.bytes, POD_IMAGE_BYTES, stream, bytes, model_answers, samples, STRAPS, times);
-    expect(model.number, pod.number, "number of a run");
+    expect(POD_DONE, model.number, "number of a run of the model");
+    expect(POD_DONE, pod.number, "number of a run");
     expect(model.samples, pod.samples, "samples of a run");
     expect(model.status, pod.status, "status after a run");
     expect(model.marks, pod.marks, "marks after a run");
     for (size_t i = 0; i < samples; i++) {
         if (pod_answers[i] != model_answers[i]) {
-            fault("sample %zu of a run: expected answer %02X, found %02X", i, model_answers[i], pod_answers[i]);
+            fault("sample %zu of a run, in pair %zu of its frames: expected answer %02X, found %02X", i, i / BOTH_CLOCKS,
+                  model_answers[i], pod_answers[i]);
             break;
         }
     }
@@ -119,9 +116,11 @@ static uint32_t register_address(uint32_t which)
     return which < POD_BLOCKS ? lock_address(which) : own[which - POD_BLOCKS];
 }
 
-/* Every address near a register, and each with any one bit another. */
+/* Every address near a register, and each with each one of its bits flipped; and the two ends. */
 static void each_near(void (*try)(uint32_t address))
 {
+    try(0);
+    try(ADDRESS_MOST);
     for (uint32_t which = 0; which < REGISTERS; which++) {
         for (uint32_t step = 0; step <= 2 * NEAR; step++) {
             const uint32_t address = register_address(which) - NEAR + step;
@@ -149,7 +148,7 @@ int main(void)
     memcpy(pod_image.bytes, image.bytes, POD_IMAGE_BYTES);
     memcpy(model_image.bytes, image.bytes, POD_IMAGE_BYTES);
 
-    check_group("addresses: near the registers and with one bit another, step by step");
+    check_group("addresses: near the registers and with one bit flipped, step by step");
     for (unsigned turn = 0; turn < TURNS; turn++) {
         each_near(step_both);
     }
@@ -157,7 +156,7 @@ int main(void)
     each_random(step_both);
     lent_stands(&image, "the image after single writes");
 
-    check_group("addresses: near the registers and with one bit another, in runs");
+    check_group("addresses: near the registers and with one bit flipped, in runs");
     for (unsigned turn = 0; turn < TURNS; turn++) {
         each_near(gather_both);
     }

@@ -1,6 +1,6 @@
--- Request #103: base plus block times 10000h finds what the list of the nineteen has. It does at each entry, by one
--- computed test; so an entry stands nowhere that it finds nothing, and what it finds is the entry at that address.
--- Assumes nothing.
+-- Request #103: at every address the rule finds what the list of the nineteen has. One computed test shows that it finds
+-- each entry at that entry's address, so no entry stands where it finds nothing; and where it finds a register, the
+-- address is that register's. Assumes nothing.
 use mathlib.Core.Path.{_≡_, _∙_, ap, sym, refl}
 use mathlib.Core.Bool.{Bool, true, false, cond}
 use Prim.Native.Nat.{ℕ, _+_, _-_, _/_, _%_, _<_}
@@ -34,7 +34,7 @@ entry-ruled k d h =
     sym (at (λ (i : ℕ). ruledAt (getD registers i d .at)) 19 k Missing h)
     ∙ at (λ (i : ℕ). getD registers i d .what) 19 k Missing h
 
--- none of which is nothing
+-- and each of them is a register, not `Missing`
 abbrev isFound : Register → Bool
 isFound (Lock b) = true
 isFound Inputs = true
@@ -46,14 +46,14 @@ entry-found : (k : ℕ) (d : Entry) → k < 19 → isFound (getD registers k d .
 entry-found k d h =
     sym (at (λ (i : ℕ). isFound (getD registers i d .what)) 19 k true h) ∙ at (λ (i : ℕ). true) 19 k true h
 
--- one test of a rule
-asked : {G : Type 0} (r : Register) (t : Bool) (x y : Register)
+-- one test of the rule, by its answer
+asked : {G : Type 0} {r : Register} {t : Bool} {x y : Register}
     → r ≡ cond t x y
     → (t ≡ true → r ≡ x → G)
     → (t ≡ false → r ≡ y → G)
     → G
-asked r true x y e f g = f refl e
-asked r false x y e f g = g refl e
+asked {t = true} e f g = f refl e
+asked {t = false} e f g = g refl e
 
 module _ (a : ℕ) where
   abbrev block : ℕ
@@ -90,24 +90,12 @@ module _ (a : ℕ) where
   pub ruled : ruledAt a ≡ registerAt a
   unfolding registerFrom
   ruled =
-      asked _ (ltb a base) _ _ refl
-      (λ t. none)
-      (λ above e.
-      asked _ (ltb block 16) _ _ e
-      (λ inside e.
-      asked _ (eqb low 2) _ _ e
-      (λ t. lock above inside t)
-      (λ t e.
-      asked _ (eqb block 12) _ _ e
-      (λ twelve e.
-      asked _ (eqb low 0x100) _ _ e
-      (λ t. own 0x100 Inputs (others-at .0) above twelve t)
-      (λ t e.
-      asked _ (eqb low 0) _ _ e
-      (λ t. own 0 MakerCode (others-at .1) above twelve t)
-      (λ t e.
-      asked _ (eqb low 1) _ _ e
-      (λ t. own 1 DeviceCode (others-at .2) above twelve t)
-      (λ t. none))))
+      asked refl (λ t. none) (λ above e.
+      asked e (λ inside e.
+      asked e (λ t. lock above inside t) (λ t e.
+      asked e (λ twelve e.
+      asked e (λ t. own 0x100 Inputs (others-at .0) above twelve t) (λ t e.
+      asked e (λ t. own 0 MakerCode (others-at .1) above twelve t) (λ t e.
+      asked e (λ t. own 1 DeviceCode (others-at .2) above twelve t) (λ t. none))))
       (λ t. none)))
       (λ t. none))

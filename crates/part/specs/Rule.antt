@@ -1,7 +1,7 @@
 -- Document 02, #103, "the rule base plus block times 10000h in place of its table": what stands at an address, computed.
--- The registers of block b begin at base + b times 10000h; below the base and from block 16 on there are none. Each block
--- has its lock at 0002h there, and block 12 has inputs, maker and device at 0100h, 0000h and 0001h. That this finds what
--- the list of nineteen has is proved (part/proofs/Rule). Assumes nothing.
+-- The registers of block b stand from base + b times 10000h on; below the base and from block 16 on there are none. Each
+-- block has its lock 0002h above that, and block 12 inputs, maker and device 0100h, 0000h and 0001h above. That this finds
+-- what the list of the nineteen has is proved (part/proofs/Lookup: ruled). Assumes nothing.
 use Prim.Native.Nat.{ℕ, _-_, _/_, _%_}
 use mathlib.Core.Bool.{cond}
 use lib.Dec.{eqb, ltb}

@@ -26,7 +26,7 @@ impl Part {
 
     pub const TOP_BLOCK: u32 = 15;
 
-    // Where its registers begin.
+    // The base of its registers: those of block b stand from here + b times 10000h on.
     pub const REGISTERS: u32 = 0xFB00000;
 
     // A controller at rest: reading the array, no error bits, no setup, no operation.
@@ -76,14 +76,14 @@ pub enum Register {
     Missing,
 }
 
-// An entry of the list of registers that says what a lookup means. No code holds one.
+// An entry of the list in specs/Registers, which says what a lookup means. No code makes one.
 pub struct Entry {
     pub at: u32,
     pub what: Register,
 }
 
-// The register at an address, for a part whose registers begin at `base`: those of block b at base + b times 10000h. Each
-// block has its lock there, at 0002h, and block 12 the part's own three as well.
+// The register at an address, for a part with this base: those of block b stand from base + b times 10000h on. Each block
+// has its lock 0002h above that, and block 12 the part's own three as well.
 fn register_from(base: u32, address: u32) -> Register
     ensures { λ r. ⌜ r ≡ registerFrom base address ⌝ }
 {
