@@ -26,17 +26,21 @@ stop() {
 }
 
 # flashrom goes on for ever where its programmer is gone, so it has a time. A programmer that has not answered within a
-# second counts for it as a broken one, before it has asked for anything: where the machine is busy elsewhere it comes again.
+# second is a broken one to it, before it has asked for anything; where the machine is busy elsewhere that is too short, so it
+# may come five times. How often it came again is told at the end.
+again=0
 updater() {
-    comes=0
-    while comes=$((comes + 1)); do
-        timeout 3600 flashrom -p "serprog:ip=127.0.0.1:$port" "$@" >said 2>&1
+    for come in 1 2 3 4 5; do
+        timeout 3600 flashrom -p "serprog:ip=127.0.0.1:$port" "$@" >said 2>complained
         came=$?
-        if [ $comes -eq 5 ] || ! grep -q 'Programmer initialization failed' said; then
-            cat said
-            return $came
+        if [ "$come" -eq 5 ] || ! grep -q 'Programmer initialization failed' said complained; then
+            break
         fi
+        again=$((again + 1))
     done
+    cat said
+    cat complained >&2
+    return "$came"
 }
 chip() { updater -c M50FW080 "$@"; }
 
@@ -101,5 +105,5 @@ stop
 same board.img old.img
 [ "$(stat -c %h witness.img)" -eq 2 ] || wrong "the file was replaced by another"
 
-echo "flashrom's write and verify took $took seconds"
+echo "flashrom's write and verify took $took seconds; it came again $again times"
 finish
