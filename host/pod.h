@@ -1,5 +1,5 @@
-/* The pod: a proved model of the M50FW080 flash part on its Firmware Hub bus, as a C or C++ program calls it.
- * For x86-64 with the System V ABI, in C11 or C++11 and later.
+/* The pod: a proved model of two flash parts, the M50FW080 on its Firmware Hub bus and its sister M50LPW080 on the LPC
+ * bus, as a C or C++ program calls it. For x86-64 with the System V ABI, in C11 or C++11 and later.
  *
  * A device is a plain record that the caller keeps and hands in; an image is the part's memory, which the caller lends.
  * The library holds nothing of its own between calls, so two devices on two images never meet, in one thread or many.
@@ -14,7 +14,7 @@
  * there for the whole call, so does the device of pod_clock, and no two of them overlap. Where a length is 0 the
  * pointer is not looked at and may be null.
  *
- *     struct pod_powered up = pod_power_up(0, 10, 3906, 30);
+ *     struct pod_powered up = pod_power_up(POD_PART_FWH, 0, 10, 3906, 30);
  *     struct pod_device device = up.device;
  *     struct pod_clocked c = pod_clock(&device, image, POD_IMAGE_BYTES, POD_SAMPLE_IDLE);
  *     if (c.number == POD_DONE && (c.answer & POD_ANSWER_DRIVEN) != 0) { .. c.answer & POD_ANSWER_LINES .. } */
@@ -30,7 +30,7 @@
 
 /* The face's version: the first number rises where a program has to change or to be compiled anew, the second where
  * something is added. */
-#define POD_VERSION_MAJOR 1
+#define POD_VERSION_MAJOR 2
 #define POD_VERSION_MINOR 0
 
 #ifdef __cplusplus
@@ -48,9 +48,13 @@ enum {
     POD_SHEET_BYTES = 13
 };
 
-/* The ranges of straps (from 0) and times (microseconds, each from 1), and the clocks of a microsecond. */
+/* The parts: the M50FW080, and the M50LPW080. */
+enum { POD_PART_FWH = 0, POD_PART_LPC = 1 };
+
+/* The ranges of straps (from 0; by the part) and times (microseconds, each from 1), and the clocks of a microsecond. */
 enum {
     POD_STRAPS_MOST = 15,
+    POD_LPC_STRAPS_MOST = 3,
     POD_PROGRAM_MOST = 200,
     POD_SLICE_MOST = 39062,
     POD_PAUSE_MOST = 30,
@@ -62,7 +66,7 @@ enum {
     POD_DONE = 0,
     POD_REFUSED_DEVICE = 1,  /* the device is not sound */
     POD_REFUSED_IMAGE = 2,   /* the image is not POD_IMAGE_BYTES long */
-    POD_REFUSED_STRAPS = 3,  /* straps above POD_STRAPS_MOST */
+    POD_REFUSED_STRAPS = 3,  /* straps that the part does not allow, or a part that is none of the two */
     POD_REFUSED_TIMES = 4,   /* a time out of its range */
     POD_REFUSED_STREAM = 5,  /* the stream is of odd length or longer than POD_STREAM_BYTES */
     POD_REFUSED_ROOM = 6,    /* a buffer is too short for what goes into it */
@@ -115,7 +119,7 @@ enum {
 enum { POD_LOCK_WRITE = 1, POD_LOCK_DOWN = 2, POD_LOCK_READ = 4 };
 
 /* What the numbers in a device stand for. A sound device has no others. */
-enum { POD_FRAME_NONE = 0, POD_FRAME_READ = 1, POD_FRAME_WRITE = 2 };
+enum { POD_FRAME_NONE = 0, POD_FRAME_READ = 1, POD_FRAME_WRITE = 2, POD_FRAME_BEGUN = 3 };
 enum { POD_OPERATION_NONE = 0, POD_OPERATION_PROGRAM = 1, POD_OPERATION_ERASE = 2 };
 enum { POD_STATE_RUNNING = 0, POD_STATE_PAUSING = 1, POD_STATE_SUSPENDED = 2 };
 enum { POD_MODE_ARRAY = 0, POD_MODE_STATUS = 1, POD_MODE_SIGNATURE = 2 };
@@ -128,7 +132,8 @@ struct pod_times {
     uint16_t pause;
 };
 
-/* The frame in progress. kind: POD_FRAME_..; clock: the last clock of it that is done, from 1. */
+/* The frame in progress. kind: POD_FRAME_.., BEGUN being an LPC frame at clock 1, whose direction is not known yet;
+ * clock: the last clock of it that is done, from 1. */
 struct pod_frame {
     uint8_t kind;
     uint8_t clock;
@@ -161,11 +166,12 @@ struct pod_controller {
     struct pod_operation inner;
 };
 
-/* The whole part but its memory. It holds numbers only: any 96 bytes at all may be handed in, and every call that takes
+/* The whole part but its memory, and which of the two it was powered up as. It holds numbers only: any 96 bytes at all may be handed in, and every call that takes
  * a device tests whether it is sound. */
 struct pod_device {
     uint8_t straps;
     uint8_t locks[16];
+    uint8_t part; /* POD_PART_.. */
     struct pod_times times;
     struct pod_frame frame;
     struct pod_controller controller;
@@ -182,9 +188,9 @@ struct pod_part    { uint32_t from, start, length; };
 /* Where the bytes of a pod_part are to be found; POD_FROM_FRONT shows none, its start and length are 0. */
 enum { POD_FROM_FRONT = 0, POD_FROM_IMAGE = 1, POD_FROM_PAGE = 2 };
 
-/* A device fresh from power-up: straps as a number, times in microseconds. Refusals 3, 4; the device is then the one
- * with straps 0 and times 10, 3906 and 30. */
-struct pod_powered pod_power_up(uint32_t straps, uint32_t program, uint32_t slice, uint32_t pause);
+/* A device fresh from power-up: which part, straps as a number, times in microseconds. Refusals 3, 4; the device is then
+ * the FWH one with straps 0 and times 10, 3906 and 30. */
+struct pod_powered pod_power_up(uint32_t part, uint32_t straps, uint32_t program, uint32_t slice, uint32_t pause);
 
 /* The device with other times (microseconds), which hold for operations accepted from now on; those in progress keep
  * their own. Refusals 1, 4. */
@@ -210,9 +216,9 @@ struct pod_settled pod_settle(struct pod_device device, uint8_t *image, size_t i
  * the samples), 7. */
 struct pod_report  pod_run(uint8_t *image, size_t image_len, const uint8_t *stream, size_t stream_len,
                            uint8_t *answers, size_t answers_len,
-                           uint32_t straps, uint32_t program, uint32_t slice, uint32_t pause);
+                           uint32_t part, uint32_t straps, uint32_t program, uint32_t slice, uint32_t pause);
 
-/* A bay sheet's straps and times (microseconds). Its bytes are 01 01 00 and the straps, then 02 06 00 and program,
+/* A bay sheet's straps and times (microseconds); a sheet says no part, and is one of FWH's. Its bytes are 01 01 00 and the straps, then 02 06 00 and program,
  * slice and pause, two bytes each with the lower one first. Changes nothing. Refusals 8, 3, 4, tested in this order. */
 struct pod_sheet   pod_sheet_read(const uint8_t *sheet, size_t sheet_len);
 
@@ -275,6 +281,7 @@ POD_OFFSET(struct pod_controller, inner, 36);
 POD_SIZE(struct pod_device, 96);
 POD_OFFSET(struct pod_device, straps, 0);
 POD_OFFSET(struct pod_device, locks, 1);
+POD_OFFSET(struct pod_device, part, 17);
 POD_OFFSET(struct pod_device, times, 18);
 POD_OFFSET(struct pod_device, frame, 24);
 POD_OFFSET(struct pod_device, controller, 32);
