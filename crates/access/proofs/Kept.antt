@@ -38,9 +38,9 @@ stored-below locks byte MakerCode e = e
 stored-below locks byte DeviceCode e = e
 stored-below locks byte Missing e = e
 
-locks-kept : (locks : List ℕ) (address byte : ℕ) → allBelow 8 locks ≡ true → allBelow 8 (lockWritten locks address byte) ≡ true
+locks-kept : (part straps : ℕ) (locks : List ℕ) (address byte : ℕ) → allBelow 8 locks ≡ true → allBelow 8 (lockWritten part straps locks address byte) ≡ true
 unfolding lockWritten
-locks-kept locks address byte e = stored-below locks byte (registerAt address) e
+locks-kept part straps locks address byte e = stored-below locks byte (registerAt part straps address) e
 
 pub reached-kept : (d : Device) (sample address byte : ℕ) → soundOf d ≡ true → soundOf (reachedOf d sample address byte .device) ≡ true
 unfolding reachedOf
@@ -65,7 +65,7 @@ reached-kept d sample address byte e = pick (ask (isArray address))
         (joined _
         (record {
           straps = p .straps;
-          locks = locks-kept (d .locks) address byte (p .locks);
+          locks = locks-kept (d .part) (d .straps) (d .locks) address byte (p .locks);
           times = p .times;
           frame = p .frame;
           controller = p .controller;

@@ -10,6 +10,7 @@ use Rattle.record.specs.Record.{blockOf}
 use Rattle.record.specs.Sample.{inputs}
 use Rattle.part.specs.declared.Register.{Register}
 use Rattle.part.specs.declared.Register.the-variants.{Lock, Inputs, MakerCode, DeviceCode, Missing}
+use Rattle.part.specs.Parts.{deviceCode}
 use Rattle.part.specs.Registers.{registerAt}
 use Rattle.status.specs.Status.{statusOf}
 
@@ -25,8 +26,8 @@ arrayAddress address = address % 1048576
 unfoldable pub lockOf : List ℕ → ℕ → ℕ
 lockOf locks address = getD locks (blockOf address) 0
 
--- a register is known by all 28 bits (house): a lock as it stands, the inputs with FGPI0 in bit 0, maker 20h, device
--- 2Dh; others read 00h
+-- a register is known by all bits of its address (house): a lock as it stands, the inputs with FGPI0 in bit 0, maker 20h,
+-- device 2Dh, which FWH alone has; others read 00h
 abbrev pub standing : List ℕ → ℕ → Register → ℕ
 standing locks sample (Lock b) = getD locks b 0
 standing locks sample Inputs = inputs sample
@@ -34,23 +35,23 @@ standing locks sample MakerCode = 0x20
 standing locks sample DeviceCode = 0x2D
 standing locks sample Missing = 0
 
-unfoldable pub registerValue : List ℕ → ℕ → ℕ → ℕ
-registerValue locks sample address = standing locks sample (registerAt address)
+unfoldable pub registerValue : ℕ → ℕ → List ℕ → ℕ → ℕ → ℕ
+registerValue part straps locks sample address = standing locks sample (registerAt part straps address)
 
 -- signature: 20h at 00000h, the device code at 00001h, 00h elsewhere (house)
-unfoldable pub signatureOf : ℕ → ℕ
-signatureOf address = cond (eqb address 0) 0x20 (cond (eqb address 1) 0x2D 0)
+unfoldable pub signatureOf : ℕ → ℕ → ℕ
+signatureOf part address = cond (eqb address 0) 0x20 (cond (eqb address 1) (deviceCode part) 0)
 
 -- by mode: the array byte, 00h if lock bit 2 is set; status at any address; signature. A suspended block reads as it
 -- stands (house): no operation is among the arguments but in the status
-unfoldable pub arrayValue : Controller → ℕ → ℕ → ℕ → ℕ
-arrayValue c lock address byte =
+unfoldable pub arrayValue : ℕ → Controller → ℕ → ℕ → ℕ → ℕ
+arrayValue part c lock address byte =
     cond (eqb (c .mode) 0) (cond (eqb (lock / 4 % 2) 1) 0 byte)
-    (cond (eqb (c .mode) 1) (statusOf c) (signatureOf address))
+    (cond (eqb (c .mode) 1) (statusOf c) (signatureOf part address))
 
 -- `byte` is what the image holds at the array address: the one place where the image reaches the device
 unfoldable pub valueOf : Device → ℕ → ℕ → ℕ → ℕ
 valueOf d sample address byte =
     cond (isArray address)
-    (arrayValue (d .controller) (lockOf (d .locks) (arrayAddress address)) (arrayAddress address) byte)
-    (registerValue (d .locks) sample address)
+    (arrayValue (d .part) (d .controller) (lockOf (d .locks) (arrayAddress address)) (arrayAddress address) byte)
+    (registerValue (d .part) (d .straps) (d .locks) sample address)

@@ -26,17 +26,17 @@ stored locks byte MakerCode = locks
 stored locks byte DeviceCode = locks
 stored locks byte Missing = locks
 
-unfoldable pub lockWritten : List ℕ → ℕ → ℕ → List ℕ
-lockWritten locks address byte = stored locks byte (registerAt address)
+unfoldable pub lockWritten : ℕ → ℕ → List ℕ → ℕ → ℕ → List ℕ
+lockWritten part straps locks address byte = stored locks byte (registerAt part straps address)
 
 abbrev pub reached : Device → Verdict → Reached
 reached d v = record { device = d; verdict = v }
 
 abbrev pub withController : Device → Controller → Device
-withController d c = device (d .straps) (d .locks) (d .times) (d .frame) c
+withController d c = device (d .part) (d .straps) (d .locks) (d .times) (d .frame) c
 
 abbrev pub withLocks : Device → List ℕ → Device
-withLocks d locks = device (d .straps) locks (d .times) (d .frame) (d .controller)
+withLocks d locks = device (d .part) (d .straps) locks (d .times) (d .frame) (d .controller)
 
 -- what a write to the array does to the controller
 abbrev pub arrayWritten : Device → ℕ → ℕ → ℕ → Written
@@ -50,4 +50,4 @@ reachedOf d sample address byte =
     (reached
     (withController d (arrayWritten d sample (arrayAddress address) byte .controller))
     (arrayWritten d sample (arrayAddress address) byte .verdict))
-    (reached (withLocks d (lockWritten (d .locks) address byte)) Unjudged)
+    (reached (withLocks d (lockWritten (d .part) (d .straps) (d .locks) address byte)) Unjudged)

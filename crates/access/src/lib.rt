@@ -1,9 +1,11 @@
 // What stands behind an address: the value that a read finds there, and what a byte written there does.
 use command::Verdict;
 use command::write;
+use part::Fwh;
 use part::Part;
 use part::Register;
 use part::block_of;
+use part::device_code;
 use part::look_up;
 use record::Controller;
 use record::Device;
@@ -39,36 +41,36 @@ fn lock_of(locks: [u8; 16], address: u32) -> u8
 }
 
 // A register as it reads.
-fn register_value(locks: [u8; 16], sample: u16, address: u32) -> u8
-    ensures { λ r. ⌜ r ≡ registerValue locks sample address ⌝ }
+fn register_value(part: u8, straps: u8, locks: [u8; 16], sample: u16, address: u32) -> u8
+    ensures { λ r. ⌜ r ≡ registerValue part straps locks sample address ⌝ }
 {
-    match look_up(address) {
+    match look_up(part, straps, address) {
         Register::Lock(b) => {
             let i = b as usize;
             locks[i]
         }
         Register::Inputs => inputs(sample),
         Register::MakerCode => Part::MAKER_CODE,
-        Register::DeviceCode => Part::DEVICE_CODE,
+        Register::DeviceCode => Fwh::DEVICE_CODE,
         Register::Missing => 0,
     }
 }
 
-fn signature(address: u32) -> u8
-    ensures { λ r. ⌜ r ≡ signatureOf address ⌝ }
+fn signature(part: u8, address: u32) -> u8
+    ensures { λ r. ⌜ r ≡ signatureOf part address ⌝ }
 {
     if address == 0 {
         return Part::MAKER_CODE;
     }
     if address == 1 {
-        return Part::DEVICE_CODE;
+        return device_code(part);
     }
     0
 }
 
 // The array as it reads in each mode; `byte` is what the image holds at the address.
-fn array_value(c: Controller, lock: u8, address: u32, byte: u8) -> u8
-    ensures { λ r. ⌜ r ≡ arrayValue c lock address byte ⌝ }
+fn array_value(part: u8, c: Controller, lock: u8, address: u32, byte: u8) -> u8
+    ensures { λ r. ⌜ r ≡ arrayValue part c lock address byte ⌝ }
 {
     if c.mode == 0 {
         if lock / 4 % 2 == 1 {
@@ -79,7 +81,7 @@ fn array_value(c: Controller, lock: u8, address: u32, byte: u8) -> u8
     if c.mode == 1 {
         return status(c);
     }
-    signature(address)
+    signature(part, address)
 }
 
 // The value that a read finds at an address.
@@ -90,9 +92,9 @@ pub fn value(d: Device, sample: u16, address: u32, byte: u8) -> u8
     if is_array(address) {
         let c = d.controller;
         let at = array_address(address);
-        return array_value(c, lock_of(locks, at), at, byte);
+        return array_value(d.part, c, lock_of(locks, at), at, byte);
     }
-    register_value(locks, sample, address)
+    register_value(d.part, d.straps, locks, sample, address)
 }
 
 // The device after a write, and whether a permission was judged.
@@ -102,10 +104,10 @@ pub struct Reached {
 }
 
 // Only locks can be written, and only while their lock-down bit is 0.
-fn write_lock(locks: [u8; 16], address: u32, byte: u8) -> [u8; 16]
-    ensures { λ r. ⌜ r ≡ lockWritten locks address byte ⌝ }
+fn write_lock(part: u8, straps: u8, locks: [u8; 16], address: u32, byte: u8) -> [u8; 16]
+    ensures { λ r. ⌜ r ≡ lockWritten part straps locks address byte ⌝ }
 {
-    match look_up(address) {
+    match look_up(part, straps, address) {
         Register::Lock(b) => {
             let i = b as usize;
             let old = locks[i];
@@ -142,7 +144,7 @@ pub fn reach(d: Device, sample: u16, address: u32, byte: u8) -> Reached
             verdict,
         };
     }
-    let changed = write_lock(locks, address, byte);
+    let changed = write_lock(d.part, d.straps, locks, address, byte);
     next.locks = changed;
     Reached {
         device: next,

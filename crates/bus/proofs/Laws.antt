@@ -10,11 +10,11 @@ use Rattle.bus.specs.declared.Asked.the-variants.{Nothing, Write}
 use Rattle.bus.specs.Frames.{writeOn, nextOf, frameClock, askedOf, drivenOf}
 
 -- a write acts with its second data nibble, before any turnaround: no later abort can stop it
-pub last-nibble : (straps n a s : ℕ)
+pub last-nibble : (part straps n a s : ℕ)
     → eqb (frameLine s) 0 ≡ false
-    → frameClock straps (frame 2 11 n a) s ≡ frame 2 12 (n % 16 + 16 * lines s) a
+    → frameClock part straps (frame 2 11 n a) s ≡ frame 2 12 (n % 16 + 16 * lines s) a
 unfolding frameClock nextOf writeOn
-last-nibble straps n a s e = rw e
+last-nibble part straps n a s e = rw e
 
 pub acts-on-12 : (byte a : ℕ) → askedOf (frame 2 12 byte a) ≡ Write a byte
 unfolding askedOf

@@ -1,4 +1,7 @@
 // The frames: what each clock of the bus takes, asks and drives.
+use part::Fwh;
+use part::Lpc;
+use part::window_of;
 use record::Frame;
 use record::frame_line;
 use record::idle_frame;
@@ -6,7 +9,7 @@ use record::lines;
 ghost use mathlib.Core.Path.{_≡_};
 ghost use Prim.Native.Nat.{_<_};
 ghost use Rattle.record.specs.Record.{frame};
-ghost use Rattle.bus.specs.Frames.{shifted, headed, readOn, writeOn, nextOf, begun, frameClock, askedOf, drivenOf};
+ghost use Rattle.bus.specs.Frames.{shifted, headed, cycled, isChosen, addressed, headedLpc, readOn, writeOn, nextOf, begun, frameClock, askedOf, drivenOf};
 
 fn frame(kind: u8, clock: u8, byte: u8, address: u32) -> Frame
     ensures { λ r. ⌜ r ≡ frame kind clock byte address ⌝ }
@@ -20,9 +23,15 @@ fn frame(kind: u8, clock: u8, byte: u8, address: u32) -> Frame
 }
 
 // The frame line is low: a new frame, or none.
-fn begin(lines: u8) -> Frame
-    ensures { λ r. ⌜ r ≡ begun lines ⌝ }
+fn begin(part: u8, lines: u8) -> Frame
+    ensures { λ r. ⌜ r ≡ begun part lines ⌝ }
 {
+    if part == 1 {
+        if lines == 0 {
+            return frame(3, 1, 0, 0);
+        }
+        return idle_frame();
+    }
     if lines == 13 {
         return frame(1, 1, 0, 0);
     }
@@ -33,14 +42,17 @@ fn begin(lines: u8) -> Frame
 }
 
 // The address with one more nibble.
-pub fn shift(address: u32, nibble: u8) -> u32
+pub fn shift(part: u8, address: u32, nibble: u8) -> u32
     requires { ⌜ nibble < 16 ⌝ }
-    ensures { λ r. ⌜ r ≡ shifted address nibble ⌝ }
+    ensures { λ r. ⌜ r ≡ shifted part address nibble ⌝ }
 {
+    if part == 1 {
+        return address % 0x10000000 * 16 + (nibble as u32);
+    }
     address % 0x1000000 * 16 + (nibble as u32)
 }
 
-// The head, the same for both kinds: strap, address, size.
+// FWH's head, the same for both kinds: strap, address, size.
 fn head(straps: u8, f: Frame, lines: u8) -> Frame
     requires { ⌜ f .clock < 10 ⌝ }
     requires { ⌜ lines < 16 ⌝ }
@@ -53,12 +65,62 @@ fn head(straps: u8, f: Frame, lines: u8) -> Frame
         return idle_frame();
     }
     if f.clock < 9 {
-        return frame(f.kind, f.clock + 1, 0, shift(f.address, lines));
+        return frame(f.kind, f.clock + 1, 0, shift(Fwh::NUMBER, f.address, lines));
     }
     if lines == 0 {
         return frame(f.kind, 10, 0, f.address);
     }
     idle_frame()
+}
+
+// The cycle type, from which on the direction of an LPC frame is known.
+fn cycle(f: Frame, lines: u8) -> Frame
+    requires { ⌜ f .clock < 10 ⌝ }
+    ensures { λ r. ⌜ r ≡ cycled f lines ⌝ }
+{
+    if lines / 2 == 2 {
+        return frame(1, f.clock + 1, 0, 0);
+    }
+    if lines / 2 == 3 {
+        return frame(2, f.clock + 1, 0, 0);
+    }
+    idle_frame()
+}
+
+// Whether an LPC address is for the part with these straps.
+pub fn is_chosen(straps: u8, address: u32) -> bool
+    ensures { λ r. ⌜ r ≡ isChosen straps address ⌝ }
+{
+    if address / 0x800000 == 0x1FF {
+        return address / 0x100000 % 4 == window_of(straps);
+    }
+    false
+}
+
+// The address so far, judged once it is whole.
+fn address_on(straps: u8, f: Frame, address: u32) -> Frame
+    requires { ⌜ f .clock < 10 ⌝ }
+    ensures { λ r. ⌜ r ≡ addressed straps f address ⌝ }
+{
+    if f.clock < 9 {
+        return frame(f.kind, f.clock + 1, 0, address);
+    }
+    if is_chosen(straps, address) {
+        return frame(f.kind, 10, 0, address);
+    }
+    idle_frame()
+}
+
+// LPC's head: cycle type, address.
+fn head_lpc(straps: u8, f: Frame, lines: u8) -> Frame
+    requires { ⌜ f .clock < 10 ⌝ }
+    requires { ⌜ lines < 16 ⌝ }
+    ensures { λ r. ⌜ r ≡ headedLpc straps f lines ⌝ }
+{
+    if f.kind == 3 {
+        return cycle(f, lines);
+    }
+    address_on(straps, f, shift(Lpc::NUMBER, f.address, lines))
 }
 
 // The rest of a read: the frame goes on to its last clock.
@@ -88,11 +150,14 @@ fn write_on(f: Frame, lines: u8) -> Frame
     idle_frame()
 }
 
-fn next(straps: u8, f: Frame, lines: u8) -> Frame
+fn next(part: u8, straps: u8, f: Frame, lines: u8) -> Frame
     requires { ⌜ lines < 16 ⌝ }
-    ensures { λ r. ⌜ r ≡ nextOf straps f lines ⌝ }
+    ensures { λ r. ⌜ r ≡ nextOf part straps f lines ⌝ }
 {
     if f.clock < 10 {
+        if part == 1 {
+            return head_lpc(straps, f, lines);
+        }
         return head(straps, f, lines);
     }
     if f.kind == 1 {
@@ -102,16 +167,16 @@ fn next(straps: u8, f: Frame, lines: u8) -> Frame
 }
 
 // One clock of the bus: the frame after it.
-pub fn clock_frame(straps: u8, f: Frame, sample: u16) -> Frame
-    ensures { λ r. ⌜ r ≡ frameClock straps f sample ⌝ }
+pub fn clock_frame(part: u8, straps: u8, f: Frame, sample: u16) -> Frame
+    ensures { λ r. ⌜ r ≡ frameClock part straps f sample ⌝ }
 {
     if frame_line(sample) == 0 {
-        return begin(lines(sample));
+        return begin(part, lines(sample));
     }
     if f.kind == 0 {
         return f;
     }
-    next(straps, f, lines(sample))
+    next(part, straps, f, lines(sample))
 }
 
 // What a frame asks on the clock that it has come to.

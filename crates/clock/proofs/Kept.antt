@@ -11,7 +11,7 @@ use Rattle.record.specs.declared.Frame.{Frame}
 use Rattle.record.specs.declared.Controller.{Controller}
 use Rattle.record.specs.declared.Device.{Device}
 use Rattle.record.specs.Record.{isIdle, isRead, idle, frame}
-use Rattle.soundness.specs.Sound.{allBelow, frameFits, soundOf}
+use Rattle.soundness.specs.Sound.{allBelow, stageFits, begunFits, frameFits, soundOf}
 use Rattle.soundness.proofs.Clauses.{Parts, parts, joined}
 use Rattle.effect.specs.declared.Effect.{Effect}
 use Rattle.effect.specs.declared.Effect.the-variants.{Nothing, Program, Fill}
@@ -30,11 +30,11 @@ use Rattle.record.specs.Sample.{isReset}
 use Rattle.clock.specs.Clock.{resetDevice, withFrame, withByte, answeredTo, servedOf, afterController, deviceClock, imageAfter}
 
 -- the byte of a frame is no part of its stage
-byte-fits : (f : Frame) (byte : ℕ) → frameFits f ≡ true → frameFits (withByte f byte) ≡ true
-unfolding frameFits
-byte-fits f byte e = e
+byte-fits : (part : ℕ) (f : Frame) (byte : ℕ) → frameFits part f ≡ true → frameFits part (withByte f byte) ≡ true
+unfolding frameFits stageFits begunFits
+byte-fits part f byte e = e
 
-framed : (d : Device) (f : Frame) → soundOf d ≡ true → frameFits f ≡ true → soundOf (withFrame d f) ≡ true
+framed : (d : Device) (f : Frame) → soundOf d ≡ true → frameFits (d .part) f ≡ true → soundOf (withFrame d f) ≡ true
 framed d f e h =
     let p = parts d e in
     joined _ (record { straps = p .straps; locks = p .locks; times = p .times; frame = h; controller = p .controller })
@@ -42,21 +42,21 @@ framed d f e h =
 answered-sound : (a : Asked) (d : Device) (image : List ℕ) (sample : ℕ) → soundOf d ≡ true → soundOf (answeredTo a d image sample .device) ≡ true
 answered-sound Silent d image sample e = e
 answered-sound (Read address) d image sample e =
-    framed d (withByte (d .frame) _) e (byte-fits (d .frame) _ (parts d e .frame))
+    framed d (withByte (d .frame) _) e (byte-fits (d .part) (d .frame) _ (parts d e .frame))
 answered-sound (Write address byte) d image sample e = reached-kept d sample address byte e
 
 pub served-sound : (d : Device) (image : List ℕ) (sample : ℕ) → soundOf d ≡ true → soundOf (servedOf d image sample .device) ≡ true
 unfolding servedOf
 served-sound d image sample e =
-    answered-sound (askedOf (frameClock (d .straps) (d .frame) sample)) (withFrame d (frameClock (d .straps) (d .frame) sample)) image sample
-    (framed d (frameClock (d .straps) (d .frame) sample) e (frame-kept (d .straps) (d .frame) sample (parts d e .frame)))
+    answered-sound (askedOf (frameClock (d .part) (d .straps) (d .frame) sample)) (withFrame d (frameClock (d .part) (d .straps) (d .frame) sample)) image sample
+    (framed d (frameClock (d .part) (d .straps) (d .frame) sample) e (frame-kept (d .part) (d .straps) (d .frame) sample (parts d e .frame)))
 
 pub reset-sound : (d : Device) → soundOf d ≡ true → soundOf (resetDevice d) ≡ true
 unfolding resetDevice
 reset-sound d e =
     let p = parts d e in
     joined _
-    (record { straps = p .straps; locks = refl; times = p .times; frame = rests; controller = reset-kept (d .controller) })
+    (record { straps = p .straps; locks = refl; times = p .times; frame = rests (d .part); controller = reset-kept (d .controller) })
 
 pub controller-sound : (d : Device) → soundOf d ≡ true → soundOf (afterController d) ≡ true
 controller-sound d e =

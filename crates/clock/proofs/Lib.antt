@@ -1,3 +1,4 @@
+pub mod Fixed
 pub mod Eventless
 pub mod Kept
 pub mod Broken

@@ -23,7 +23,7 @@ use Rattle.operation.proofs.Facts.{still-clocked}
 use Rattle.operation.proofs.Kept.{unset, unset-inside}
 use Rattle.bus.specs.declared.Asked.{Asked}
 use Rattle.bus.specs.declared.Asked.the-variants.{Nothing as Silent, Read, Write}
-use Rattle.bus.specs.Frames.{headed, readOn, nextOf, frameClock, askedOf}
+use Rattle.bus.specs.Frames.{headed, cycled, addressed, headedLpc, readOn, nextOf, frameClock, askedOf}
 use Rattle.command.specs.declared.Verdict.{Verdict}
 use Rattle.command.specs.declared.Verdict.the-variants.{Unjudged}
 use Rattle.command.specs.declared.Written.{Written}
@@ -49,6 +49,7 @@ pub data FramesAlike (f : Frame) : Frame → Type 0 where
 
 -- equal worlds, but for lock registers and that byte
 pub record Alike (v w : World) : Type 0 where
+  pub part : v .device .part ≡ w .device .part
   pub straps : v .device .straps ≡ w .device .straps
   pub times : v .device .times ≡ w .device .times
   pub frames : FramesAlike (v .device .frame) (w .device .frame)
@@ -73,30 +74,30 @@ module _ (s t : ℕ) (e : withoutPins s ≡ withoutPins t) where
       rw (r, i)
 
 -- the bus: frames that are alike stay so, and ask the same
-same-framed : (straps : ℕ) (f : Frame) (s t : ℕ) → withoutPins s ≡ withoutPins t → frameClock straps f s ≡ frameClock straps f t
+same-framed : (part straps : ℕ) (f : Frame) (s t : ℕ) → withoutPins s ≡ withoutPins t → frameClock part straps f s ≡ frameClock part straps f t
 unfolding frameClock
-same-framed straps f s t e = rw (same-lines s t e, same-line s t e)
+same-framed part straps f s t e = rw (same-lines s t e, same-line s t e)
 
-framed-reading : (straps : ℕ) (f : Frame) (byte s : ℕ)
+framed-reading : (part straps : ℕ) (f : Frame) (byte s : ℕ)
     → isRead f ≡ true
-    → FramesAlike (frameClock straps f s) (frameClock straps (withByte f byte) s)
-unfolding frameClock nextOf headed readOn
-framed-reading straps f byte s r = pick (ask (eqb (frameLine s) 0)) (ask (isIdle f)) (ask (ltb (f .clock) 10)) (ask (ltb (f .clock) 18))
+    → FramesAlike (frameClock part straps f s) (frameClock part straps (withByte f byte) s)
+unfolding frameClock nextOf headed headedLpc cycled addressed readOn
+framed-reading part straps f byte s r = pick (ask (eqb (frameLine s) 0)) (ask (isIdle f)) (ask (ltb (f .clock) 10)) (ask (ltb (f .clock) 18))
   where
     pick : Answer (eqb (frameLine s) 0)
         → Answer (isIdle f)
         → Answer (ltb (f .clock) 10)
         → Answer (ltb (f .clock) 18)
-        → FramesAlike (frameClock straps f s) (frameClock straps (withByte f byte) s)
+        → FramesAlike (frameClock part straps f s) (frameClock part straps (withByte f byte) s)
     pick (yes a) b c d = rw a same
     pick (no a) (yes b) c d = rw (a, b) (reading r byte)
     pick (no a) (no b) (yes c) d = rw (a, b, c) same
     pick (no a) (no b) (no c) (yes d) = rw (a, b, c, r, d) (reading r byte)
     pick (no a) (no b) (no c) (no d) = rw (a, b, c, r, d) same
 
-framed-alike : (straps : ℕ) (f g : Frame) (s : ℕ) → FramesAlike f g → FramesAlike (frameClock straps f s) (frameClock straps g s)
-framed-alike straps f g s same = same
-framed-alike straps f g s (reading r byte) = framed-reading straps f byte s r
+framed-alike : (part straps : ℕ) (f g : Frame) (s : ℕ) → FramesAlike f g → FramesAlike (frameClock part straps f s) (frameClock part straps g s)
+framed-alike part straps f g s same = same
+framed-alike part straps f g s (reading r byte) = framed-reading part straps f byte s r
 
 asked-alike : (f g : Frame) → FramesAlike f g → askedOf g ≡ askedOf f
 unfolding askedOf
@@ -123,12 +124,12 @@ fixed-alike : (f g : Frame) (x y : ℕ) → isRead f ≡ true → FramesAlike f 
 fixed-alike f g x y r same = reading r y
 fixed-alike f g x y r (reading q byte) = reading r y
 
-module _ (straps : ℕ) (l m : List ℕ) (ts : Times) (f g : Frame) (c : Controller) (image : List ℕ) (s t : ℕ) (h : FramesAlike f g) where
+module _ (part straps : ℕ) (l m : List ℕ) (ts : Times) (f g : Frame) (c : Controller) (image : List ℕ) (s t : ℕ) (h : FramesAlike f g) where
   abbrev one : Device
-  one = device straps l ts f c
+  one = device part straps l ts f c
 
   abbrev two : Device
-  two = device straps m ts g c
+  two = device part straps m ts g c
 
   reached-alike : (address byte : ℕ)
       → verdictBits (reachedOf one s address byte .verdict) ≡ verdictBits (reachedOf two t address byte .verdict)
@@ -141,54 +142,54 @@ module _ (straps : ℕ) (l m : List ℕ) (ts : Times) (f g : Frame) (c : Control
           → Alike (world (reachedOf one s address byte .device) image) (world (reachedOf two t address byte .device) image)
       pick (yes a) e =
           let q = written-alike c ts s t _ _ (arrayAddress address) byte (rw a at e) in
-          rw a (record { straps = refl; times = refl; frames = h; controllers = q; images = refl })
-      pick (no a) e = rw a (record { straps = refl; times = refl; frames = h; controllers = refl; images = refl })
+          rw a (record { part = refl; straps = refl; times = refl; frames = h; controllers = q; images = refl })
+      pick (no a) e = rw a (record { part = refl; straps = refl; times = refl; frames = h; controllers = refl; images = refl })
 
   answered-alike : (a : Asked)
       → (isFixed a ≡ true → isRead f ≡ true)
       → verdictBits (answeredTo a one image s .verdict) ≡ verdictBits (answeredTo a two image t .verdict)
       → Alike (world (answeredTo a one image s .device) image) (world (answeredTo a two image t .device) image)
-  answered-alike Silent r e = record { straps = refl; times = refl; frames = h; controllers = refl; images = refl }
+  answered-alike Silent r e = record { part = refl; straps = refl; times = refl; frames = h; controllers = refl; images = refl }
   answered-alike (Read address) r e =
-      record { straps = refl; times = refl; frames = fixed-alike f g _ _ (r refl) h; controllers = refl; images = refl }
+      record { part = refl; straps = refl; times = refl; frames = fixed-alike f g _ _ (r refl) h; controllers = refl; images = refl }
   answered-alike (Write address byte) r e = reached-alike address byte e
 
 -- the judgement of a clock without a reset is the bus's
 served-verdict : (d : Device) (image : List ℕ) (s : ℕ)
     → isReset s ≡ false
     → verdictOn (world d image) s
-    ≡ answeredTo (askedOf (frameClock (d .straps) (d .frame) s)) (withFrame (afterController d) (frameClock (d .straps) (d .frame) s))
+    ≡ answeredTo (askedOf (frameClock (d .part) (d .straps) (d .frame) s)) (withFrame (afterController d) (frameClock (d .part) (d .straps) (d .frame) s))
     (applied (controllerClock (d .controller) .effect) image) s .verdict
 unfolding deviceClock servedOf
 served-verdict d image s a = rw (a, verdictOn)
 
-once : (straps : ℕ) (l m : List ℕ) (ts : Times) (f g : Frame) (c : Controller) (image : List ℕ) (s t : ℕ)
+once : (part straps : ℕ) (l m : List ℕ) (ts : Times) (f g : Frame) (c : Controller) (image : List ℕ) (s t : ℕ)
     → withoutPins s ≡ withoutPins t
     → FramesAlike f g
-    → verdictBits (verdictOn (world (device straps l ts f c) image) s) ≡ verdictBits (verdictOn (world (device straps m ts g c) image) t)
-    → Alike (onward (world (device straps l ts f c) image) s) (onward (world (device straps m ts g c) image) t)
+    → verdictBits (verdictOn (world (device part straps l ts f c) image) s) ≡ verdictBits (verdictOn (world (device part straps m ts g c) image) t)
+    → Alike (onward (world (device part straps l ts f c) image) s) (onward (world (device part straps m ts g c) image) t)
 unfolding onward deviceClock imageAfter resetDevice servedOf
-once straps l m ts f g c image s t e h = pick (ask (isReset s))
+once part straps l m ts f g c image s t e h = pick (ask (isReset s))
   where
-    p : FramesAlike (frameClock straps f s) (frameClock straps g s)
-    p = framed-alike straps f g s h
+    p : FramesAlike (frameClock part straps f s) (frameClock part straps g s)
+    p = framed-alike part straps f g s h
 
-    seen : isReset s ≡ false → verdictOn (world (device straps m ts g c) image) t
-        ≡ answeredTo (askedOf (frameClock straps f s)) (withFrame (afterController (device straps m ts g c)) (frameClock straps g s))
+    seen : isReset s ≡ false → verdictOn (world (device part straps m ts g c) image) t
+        ≡ answeredTo (askedOf (frameClock part straps f s)) (withFrame (afterController (device part straps m ts g c)) (frameClock part straps g s))
         (applied (controllerClock c .effect) image) t .verdict
-    seen up = rw (← asked-alike (frameClock straps f s) (frameClock straps g s) p, same-framed straps g s t e) (served-verdict (device straps m ts g c) image t (sym (same-reset s t e) ∙ up))
+    seen up = rw (← asked-alike (frameClock part straps f s) (frameClock part straps g s) p, same-framed part straps g s t e) (served-verdict (device part straps m ts g c) image t (sym (same-reset s t e) ∙ up))
 
     pick : Answer (isReset s)
-        → verdictBits (verdictOn (world (device straps l ts f c) image) s) ≡ verdictBits (verdictOn (world (device straps m ts g c) image) t)
-        → Alike (onward (world (device straps l ts f c) image) s) (onward (world (device straps m ts g c) image) t)
+        → verdictBits (verdictOn (world (device part straps l ts f c) image) s) ≡ verdictBits (verdictOn (world (device part straps m ts g c) image) t)
+        → Alike (onward (world (device part straps l ts f c) image) s) (onward (world (device part straps m ts g c) image) t)
     pick (yes a) n =
         rw (← same-reset s t e, a)
-        (record { straps = refl; times = refl; frames = same; controllers = refl; images = refl })
+        (record { part = refl; straps = refl; times = refl; frames = same; controllers = refl; images = refl })
     pick (no a) n =
-        rw (← same-reset s t e, ← same-framed straps g s t e, a, asked-alike (frameClock straps f s) (frameClock straps g s) p)
-        (answered-alike straps l m ts (frameClock straps f s) (frameClock straps g s) (controllerClock c .controller) (applied (controllerClock c .effect) image) s t p
-        (askedOf (frameClock straps f s)) (fixed-read (frameClock straps f s))
-        (ap verdictBits (sym (served-verdict (device straps l ts f c) image s a)) ∙ n ∙ ap verdictBits (seen a)))
+        rw (← same-reset s t e, ← same-framed part straps g s t e, a, asked-alike (frameClock part straps f s) (frameClock part straps g s) p)
+        (answered-alike part straps l m ts (frameClock part straps f s) (frameClock part straps g s) (controllerClock c .controller) (applied (controllerClock c .effect) image) s t p
+        (askedOf (frameClock part straps f s)) (fixed-read (frameClock part straps f s))
+        (ap verdictBits (sym (served-verdict (device part straps l ts f c) image s a)) ∙ n ∙ ap verdictBits (seen a)))
 
 -- two worlds that are alike, and two samples that differ in pins, voltage and inputs only: where the judgement has the same
 -- error bit, or none in both, they stay alike
@@ -200,9 +201,9 @@ pub alike-once : (v w : World) (s t : ℕ)
 alike-once v w s t e a n =
     let d = v .device in
     let k = w .device in
-    let q : world (device (d .straps) (k .locks) (d .times) (k .frame) (d .controller)) (v .image) ≡ w = rw (a .straps, a .times, a .controllers, a .images) in
+    let q : world (device (d .part) (d .straps) (k .locks) (d .times) (k .frame) (d .controller)) (v .image) ≡ w = rw (a .part, a .straps, a .times, a .controllers, a .images) in
     subst (λ (x : World). Alike (onward v s) (onward x t)) q
-    (once (d .straps) (d .locks) (k .locks) (d .times) (d .frame) (k .frame) (d .controller) (v .image) s t e (a .frames)
+    (once (d .part) (d .straps) (d .locks) (k .locks) (d .times) (d .frame) (k .frame) (d .controller) (v .image) s t e (a .frames)
     (n ∙ ap (λ (x : World). verdictBits (verdictOn x t)) (sym q)))
 
 -- the array and the ends of operations hang on no judgement
@@ -285,22 +286,22 @@ module _ (d : Device) (image locks : List ℕ) (s t : ℕ) (e : withoutPins s �
         pick : Answer (isReset s) → Standing (d .controller) (deviceClock d image s .device .controller) (deviceClock (withLocks d locks) image t .device .controller)
         pick (yes a) = rw (← same-reset s t e, a) (same-standing (d .controller) _ _ refl)
         pick (no a) =
-            rw (← same-reset s t e, ← same-framed (d .straps) (d .frame) s t e, a)
-            (answered-standing (askedOf (frameClock (d .straps) (d .frame) s)) (frameClock (d .straps) (d .frame) s) (applied (controllerClock (d .controller) .effect) image))
+            rw (← same-reset s t e, ← same-framed (d .part) (d .straps) (d .frame) s t e, a)
+            (answered-standing (askedOf (frameClock (d .part) (d .straps) (d .frame) s)) (frameClock (d .part) (d .straps) (d .frame) s) (applied (controllerClock (d .controller) .effect) image))
 
 -- outside a setup, of any device: a clock of its controller hangs on no pin and no lock register, nor on its times
-module _ (straps : ℕ) (l m : List ℕ) (ts us : Times) (f : Frame) (c : Controller) (image : List ℕ) (s t : ℕ) (n : eqb (c .setup) 0 ≡ true) where
+module _ (part straps : ℕ) (l m : List ℕ) (ts us : Times) (f : Frame) (c : Controller) (image : List ℕ) (s t : ℕ) (n : eqb (c .setup) 0 ≡ true) where
   answered-alone : (a : Asked) (g : Frame) (late : List ℕ)
-      → answeredTo a (withFrame (afterController (device straps l ts f c)) g) late s .device .controller
-      ≡ answeredTo a (withFrame (afterController (device straps m us f c)) g) late t .device .controller
+      → answeredTo a (withFrame (afterController (device part straps l ts f c)) g) late s .device .controller
+      ≡ answeredTo a (withFrame (afterController (device part straps m us f c)) g) late t .device .controller
   unfolding reachedOf
   answered-alone Silent g late = refl
   answered-alone (Read address) g late = refl
   answered-alone (Write address byte) g late = pick (ask (isArray address))
     where
       pick : Answer (isArray address)
-          → answeredTo (Write address byte) (withFrame (afterController (device straps l ts f c)) g) late s .device .controller
-          ≡ answeredTo (Write address byte) (withFrame (afterController (device straps m us f c)) g) late t .device .controller
+          → answeredTo (Write address byte) (withFrame (afterController (device part straps l ts f c)) g) late s .device .controller
+          ≡ answeredTo (Write address byte) (withFrame (afterController (device part straps m us f c)) g) late t .device .controller
       pick (yes a) =
           rw a
           (ap (λ (w : Written). w .controller)
@@ -308,16 +309,16 @@ module _ (straps : ℕ) (l m : List ℕ) (ts us : Times) (f : Frame) (c : Contro
       pick (no a) = rw a
 
   pub alone : withoutPins s ≡ withoutPins t
-      → deviceClock (device straps l ts f c) image s .device .controller ≡ deviceClock (device straps m us f c) image t .device .controller
+      → deviceClock (device part straps l ts f c) image s .device .controller ≡ deviceClock (device part straps m us f c) image t .device .controller
   unfolding deviceClock servedOf resetDevice
   alone e = pick (ask (isReset s))
     where
       pick : Answer (isReset s)
-          → deviceClock (device straps l ts f c) image s .device .controller ≡ deviceClock (device straps m us f c) image t .device .controller
+          → deviceClock (device part straps l ts f c) image s .device .controller ≡ deviceClock (device part straps m us f c) image t .device .controller
       pick (yes a) = rw (← same-reset s t e, a)
       pick (no a) =
-          rw (← same-reset s t e, ← same-framed straps f s t e, a)
-          (answered-alone (askedOf (frameClock straps f s)) (frameClock straps f s) (applied (controllerClock c .effect) image))
+          rw (← same-reset s t e, ← same-framed part straps f s t e, a)
+          (answered-alone (askedOf (frameClock part straps f s)) (frameClock part straps f s) (applied (controllerClock c .effect) image))
 
 -- no judgement falls on a clock on which an operation counts: no setup stands beside it
 module _ (d : Device) (image : List ℕ) (s : ℕ) (f : soundOf d ≡ true) (m : isStill (active (d .controller)) ≡ false) where
@@ -342,4 +343,4 @@ module _ (d : Device) (image : List ℕ) (s : ℕ) (f : soundOf d ≡ true) (m :
     where
       pick : Answer (isReset s) → verdictOn (world d image) s ≡ Unjudged
       pick (yes r) = rw (r, verdictOn)
-      pick (no r) = served-verdict d image s r ∙ answered-unjudged (askedOf (frameClock (d .straps) (d .frame) s)) (frameClock (d .straps) (d .frame) s) (applied (controllerClock (d .controller) .effect) image)
+      pick (no r) = served-verdict d image s r ∙ answered-unjudged (askedOf (frameClock (d .part) (d .straps) (d .frame) s)) (frameClock (d .part) (d .straps) (d .frame) s) (applied (controllerClock (d .controller) .effect) image)

@@ -26,16 +26,16 @@ use Rattle.access.specs.Write.{reached, reachedOf, withController}
 use Rattle.clock.specs.declared.Happened.{Happened}
 use Rattle.clock.specs.declared.DeviceClocked.{DeviceClocked}
 
--- the frame is dropped, locks become 01h, the controller is reset; straps and times stay
+-- the frame is dropped, locks become 01h, the controller is reset; part, straps and times stay
 unfoldable pub resetDevice : Device → Device
-resetDevice d = device (d .straps) (replicate 16 1) (d .times) idle (resetOf (d .controller))
+resetDevice d = device (d .part) (d .straps) (replicate 16 1) (d .times) idle (resetOf (d .controller))
 
 -- an operation is there to be cut off
 unfoldable pub isCut : Device → Bool
 isCut d = not (isAbsent (d .controller .outer))
 
 abbrev pub withFrame : Device → Frame → Device
-withFrame d f = device (d .straps) (d .locks) (d .times) f (d .controller)
+withFrame d f = device (d .part) (d .straps) (d .locks) (d .times) f (d .controller)
 
 -- a frame with its byte fixed
 abbrev pub withByte : Frame → ℕ → Frame
@@ -51,8 +51,8 @@ answeredTo (Write address byte) d image sample = reachedOf d sample address byte
 -- step 3, the bus
 unfoldable pub servedOf : Device → List ℕ → ℕ → Reached
 servedOf d image sample =
-    answeredTo (askedOf (frameClock (d .straps) (d .frame) sample))
-    (withFrame d (frameClock (d .straps) (d .frame) sample)) image sample
+    answeredTo (askedOf (frameClock (d .part) (d .straps) (d .frame) sample))
+    (withFrame d (frameClock (d .part) (d .straps) (d .frame) sample)) image sample
 
 abbrev pub happened : Effect → Verdict → Bool → Bool → Happened
 happened e v finished cut = record { effect = e; verdict = v; finished = finished; cut = cut }

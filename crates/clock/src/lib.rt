@@ -60,7 +60,7 @@ fn serve(d: Device, image: &[u8], sample: u16) -> Reached
     ensures { λ r. ⌜ r ≡ servedOf d (now (image .entry)) sample ⌝ }
 {
     let old = d.frame;
-    let frame = clock_frame(d.straps, old, sample);
+    let frame = clock_frame(d.part, d.straps, old, sample);
     let mut next = d;
     next.frame = frame;
     match ask(frame) {

@@ -39,11 +39,11 @@ use Rattle.demands.specs.History.{clock, after}
 
 -- the calls, with what is handed in
 pub data Call : Type 0 where
-  powerUp : ℕ → ℕ → ℕ → ℕ → Call
+  powerUp : ℕ → ℕ → ℕ → ℕ → ℕ → Call
   setTimes : Device → ℕ → ℕ → ℕ → Call
   step : Device → List ℕ → ℕ → Call
   settle : Device → List ℕ → ℕ → ℕ → Call
-  run : List ℕ → List ℕ → List ℕ → ℕ → ℕ → ℕ → ℕ → Call
+  run : List ℕ → List ℕ → List ℕ → ℕ → ℕ → ℕ → ℕ → ℕ → Call
   readSheet : List ℕ → Call
   readSheetAsEnum : List ℕ → Call
   writeSheet : List ℕ → ℕ → ℕ → ℕ → ℕ → Call
@@ -55,11 +55,11 @@ pub data Call : Type 0 where
 
 -- what a call gives back, with every lent buffer that it may write, as it is afterwards
 abbrev pub Given : Call → Type 0
-Given (powerUp straps program slice pause) = Powered
+Given (powerUp part straps program slice pause) = Powered
 Given (setTimes d program slice pause) = Powered
 Given (step d image sample) = Stepped × List ℕ
 Given (settle d image sample limit) = Settled × List ℕ
-Given (run image stream answers straps program slice pause) = Report × List ℕ × List ℕ
+Given (run image stream answers part straps program slice pause) = Report × List ℕ × List ℕ
 Given (readSheet bytes) = Sheet
 Given (readSheetAsEnum bytes) = Reading
 Given (writeSheet buffer straps program slice pause) = ℕ × List ℕ
@@ -71,12 +71,12 @@ Given (tellMarks d) = ℕ
 
 -- the list of the promises: each call with the predicate that its contract cites, in its room and at the C face
 abbrev pub Promised : (c : Call) → Given c → Type 0
-Promised (powerUp straps program slice pause) r = PowersUp straps program slice pause r
+Promised (powerUp part straps program slice pause) r = PowersUp part straps program slice pause r
 Promised (setTimes d program slice pause) r = SetsTimes d program slice pause r
 Promised (step d image sample) g = Steps d image sample (g .0) (g .1)
 Promised (settle d image sample limit) g = Settles d image sample limit (g .0) (g .1)
-Promised (run image stream answers straps program slice pause) g =
-    Runs image stream answers straps program slice pause (g .0) (g .1) (g .2)
+Promised (run image stream answers part straps program slice pause) g =
+    Runs image stream answers part straps program slice pause (g .0) (g .1) (g .2)
 Promised (readSheet bytes) r = ReadsNumbers bytes r
 Promised (readSheetAsEnum bytes) r = Reads bytes r
 Promised (writeSheet buffer straps program slice pause) g = WritesSheet buffer straps program slice pause (g .0) (g .1)
@@ -118,8 +118,9 @@ unsound d = when 1 (not (soundOf d))
 abbrev misfit : List ℕ → Refusal
 misfit image = when 2 (not (eqb (length image) 1048576))
 
-abbrev strapped : ℕ → Refusal
-strapped straps = when 3 (ltb 15 straps)
+-- FWH is part 0 and has straps 0 to 15, LPC is part 1 and has 0 to 3
+abbrev strapped : ℕ → ℕ → Refusal
+strapped part straps = when 3 (ltb 1 part || ltb (cond (eqb part 1) 3 15) straps)
 
 -- program 1 to 200, erase slice 1 to 39,062, pause 1 to 30
 abbrev pub areTimes : ℕ → ℕ → ℕ → Bool
@@ -137,11 +138,11 @@ hasClass3 (s ∷ ss) = eqb (voltage s) 3 || hasClass3 ss
 
 abbrev unreadable : List ℕ → List Refusal
 unreadable bytes =
-    when 8 (not (ofLayout bytes)) ∷ strapped (getD bytes 3 0) ∷ mistimed (twoAt bytes 7) (twoAt bytes 9) (twoAt bytes 11) ∷ []
+    when 8 (not (ofLayout bytes)) ∷ strapped 0 (getD bytes 3 0) ∷ mistimed (twoAt bytes 7) (twoAt bytes 9) (twoAt bytes 11) ∷ []
 
 -- the table: each call's refusals, in the order in which they are tested. The lowest comes first, but for sheet read
 abbrev pub refusals : Call → List Refusal
-refusals (powerUp straps program slice pause) = strapped straps ∷ mistimed program slice pause ∷ []
+refusals (powerUp part straps program slice pause) = strapped part straps ∷ mistimed program slice pause ∷ []
 refusals (setTimes d program slice pause) = unsound d ∷ mistimed program slice pause ∷ []
 refusals (step d image sample) = unsound d ∷ misfit image ∷ when 7 (eqb (voltage sample) 3) ∷ []
 refusals (settle d image sample limit) =
@@ -151,9 +152,9 @@ refusals (settle d image sample limit) =
     ∷ when 9 (eqb (frameLine sample) 0 || (eqb (rp sample) 0 || eqb (init sample) 0))
     ∷ when 10 (isBusyFor sample limit (world d image))
     ∷ []
-refusals (run image stream answers straps program slice pause) =
+refusals (run image stream answers part straps program slice pause) =
     misfit image
-    ∷ strapped straps
+    ∷ strapped part straps
     ∷ mistimed program slice pause
     ∷ when 5 (ltb 131072 (length stream) || eqb (length stream % 2) 1)
     ∷ when 6 (ltb (length answers) (length stream / 2))
@@ -162,7 +163,7 @@ refusals (run image stream answers straps program slice pause) =
 refusals (readSheet bytes) = unreadable bytes
 refusals (readSheetAsEnum bytes) = unreadable bytes
 refusals (writeSheet buffer straps program slice pause) =
-    strapped straps ∷ mistimed program slice pause ∷ when 6 (ltb (length buffer) 13) ∷ []
+    strapped 0 straps ∷ mistimed program slice pause ∷ when 6 (ltb (length buffer) 13) ∷ []
 refusals (stepInPlace d image sample) = unsound d ∷ misfit image ∷ when 7 (eqb (voltage sample) 3) ∷ []
 refusals (viewBlock d image page block) = []
 refusals (viewBlockAsNumbers d image page block) = []
@@ -184,19 +185,19 @@ pub record Outcome : Type 0 where
 abbrev gives : ℕ → List ℕ → Device → List (List ℕ) → Outcome
 gives number others d buffers = record { number = number; others = others; device = d; buffers = buffers }
 
--- the device with straps 0 and times 10, 3,906, 30; it also stands where a call has no device
+-- the FWH device with straps 0 and times 10, 3,906, 30; it also stands where a call has no device
 abbrev spare : Device
-spare = freshOf 0 (times 10 3906 30)
+spare = freshOf 0 0 (times 10 3906 30)
 
 abbrev numbers : Sheet → Outcome
 numbers r = gives (r .number) (r .straps ∷ r .program ∷ r .slice ∷ r .pause ∷ []) spare []
 
 abbrev pub outcome : (c : Call) → Given c → Outcome
-outcome (powerUp straps program slice pause) r = gives (r .number) [] (r .device) []
+outcome (powerUp part straps program slice pause) r = gives (r .number) [] (r .device) []
 outcome (setTimes d program slice pause) r = gives (r .number) [] (r .device) []
 outcome (step d image sample) g = gives (g .0 .number) (g .0 .answer ∷ []) (g .0 .device) (g .1 ∷ [])
 outcome (settle d image sample limit) g = gives (g .0 .number) (g .0 .count ∷ []) (g .0 .device) (g .1 ∷ [])
-outcome (run image stream answers straps program slice pause) g =
+outcome (run image stream answers part straps program slice pause) g =
     gives (g .0 .number) (g .0 .samples ∷ g .0 .status ∷ g .0 .marks ∷ []) spare (g .1 ∷ g .2 ∷ [])
 outcome (readSheet bytes) r = numbers r
 outcome (readSheetAsEnum bytes) r = numbers (numbersOf r)
@@ -209,11 +210,11 @@ outcome (tellMarks d) r = gives 0 (r ∷ []) spare []
 
 -- what a refusal leaves: memory as lent, the device handed in (power up: the spare one), every other number 0
 abbrev pub asLent : Call → ℕ → Outcome
-asLent (powerUp straps program slice pause) number = gives number [] spare []
+asLent (powerUp part straps program slice pause) number = gives number [] spare []
 asLent (setTimes d program slice pause) number = gives number [] d []
 asLent (step d image sample) number = gives number (0 ∷ []) d (image ∷ [])
 asLent (settle d image sample limit) number = gives number (0 ∷ []) d (image ∷ [])
-asLent (run image stream answers straps program slice pause) number =
+asLent (run image stream answers part straps program slice pause) number =
     gives number (0 ∷ 0 ∷ 0 ∷ []) spare (image ∷ answers ∷ [])
 asLent (readSheet bytes) number = gives number (0 ∷ 0 ∷ 0 ∷ 0 ∷ []) spare []
 asLent (readSheetAsEnum bytes) number = gives number (0 ∷ 0 ∷ 0 ∷ 0 ∷ []) spare []
@@ -260,15 +261,15 @@ SettleStops =
 
 -- what a call that is done gives. Of a settle `SettleStops` says it, of a run `RunIsSteps`
 abbrev pub Right : (c : Call) → Given c → Type 0
-Right (powerUp straps program slice pause) r = r .device ≡ freshOf straps (times program slice pause)
+Right (powerUp part straps program slice pause) r = r .device ≡ freshOf part straps (times program slice pause)
 Right (setTimes d program slice pause) r =
-    r .device ≡ device (d .straps) (d .locks) (times program slice pause) (d .frame) (d .controller)
+    r .device ≡ device (d .part) (d .straps) (d .locks) (times program slice pause) (d .frame) (d .controller)
 Right (step d image sample) g =
     (g .0 .answer ≡ deviceClock d image sample .answer)
     × (g .0 .device ≡ deviceClock d image sample .device)
     × (g .1 ≡ imageAfter d image sample)
 Right (settle d image sample limit) g = Unit
-Right (run image stream answers straps program slice pause) g = Unit
+Right (run image stream answers part straps program slice pause) g = Unit
 Right (readSheet bytes) r =
     (r .straps ≡ getD bytes 3 0)
     × (r .program ≡ twoAt bytes 7)

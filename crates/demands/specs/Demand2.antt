@@ -10,7 +10,7 @@ use lib.ListN.{length, getD, take}
 use Rattle.basics.specs.All.{all}
 use Rattle.units.specs.declared.Times.{Times}
 use Rattle.record.specs.declared.Device.{Device}
-use Rattle.record.specs.Record.{idle, isProgram, isErase, isSuspended}
+use Rattle.record.specs.Record.{isLpc, idle, isProgram, isErase, isSuspended}
 use Rattle.record.specs.Sample.{lines, frameLine, isReset}
 use Rattle.part.specs.Fresh.{freshOf}
 use Rattle.soundness.specs.Sound.{allBelow, soundOf}
@@ -36,9 +36,9 @@ noneResets (s ∷ ss) = cond (isReset s) false (noneResets ss)
 abbrev pub nibble : ℕ → List ℕ → ℕ
 nibble n frame = lines (getD frame (n - 1) 0)
 
--- the address, on clocks 3 to 9, highest nibble first; the data of a write, on 11 and 12, low nibble first
-abbrev pub addressIn : List ℕ → ℕ
-addressIn frame =
+-- the address, on clocks 3 to 9, on LPC 3 to 10, highest nibble first; the data of a write, on 11 and 12, low nibble first
+abbrev pub sevenIn : List ℕ → ℕ
+sevenIn frame =
     nibble 3 frame * 0x1000000
     + nibble 4 frame * 0x100000
     + nibble 5 frame * 0x10000
@@ -47,13 +47,25 @@ addressIn frame =
     + nibble 8 frame * 0x10
     + nibble 9 frame
 
+abbrev pub addressIn : ℕ → List ℕ → ℕ
+addressIn part frame = cond (isLpc part) (sevenIn frame * 0x10 + nibble 10 frame) (sevenIn frame)
+
 abbrev pub dataIn : List ℕ → ℕ
 dataIn frame = nibble 11 frame + 16 * nibble 12 frame
 
--- a frame of this first nibble (1101b reads, 1110b writes) that is for this part: its straps on clock 2, 0000b on clock 10
-abbrev pub isFor : ℕ → ℕ → List ℕ → Bool
-isFor kind straps frame =
-    all (eqb (nibble 1 frame) kind ∷ eqb (nibble 2 frame) straps ∷ eqb (nibble 10 frame) 0 ∷ [])
+-- a read (kind 1) or write (kind 2) that is for this part. FWH: 1101b or 1110b on clock 1, the straps on clock 2, 0000b on clock
+-- 10. LPC: 0000b on clock 1, 010X or 011X on clock 2, and an address whose bits 23 to 31 are 1 and whose bits 21 and 20 are
+-- the straps inverted
+abbrev pub isFor : ℕ → ℕ → ℕ → List ℕ → Bool
+isFor part straps kind frame =
+    cond (isLpc part)
+    (all
+    (eqb (nibble 1 frame) 0
+    ∷ eqb (nibble 2 frame / 2) (1 + kind)
+    ∷ eqb (addressIn part frame / 0x800000) 0x1FF
+    ∷ eqb (addressIn part frame / 0x100000 % 4) (3 - straps)
+    ∷ []))
+    (all (eqb (nibble 1 frame) (12 + kind) ∷ eqb (nibble 2 frame) straps ∷ eqb (nibble 10 frame) 0 ∷ []))
 
 -- what clock n of a read drives, and of a write
 abbrev pub drivenByRead : ℕ → ℕ → ℕ
@@ -69,18 +81,19 @@ abbrev pub drivenByWrite : ℕ → ℕ
 drivenByWrite n = cond (eqb n 15) 0x10 (cond (eqb n 16) 0x1F 0)
 
 -- what the last clock of a frame drives
-abbrev pub driven : ℕ → List ℕ → ℕ → ℕ
-driven straps frame value =
-    cond (isFor 13 straps frame) (drivenByRead (length frame) value)
-    (cond (isFor 14 straps frame) (drivenByWrite (length frame)) 0)
+abbrev pub driven : ℕ → ℕ → List ℕ → ℕ → ℕ
+driven part straps frame value =
+    cond (isFor part straps 1 frame) (drivenByRead (length frame) value)
+    (cond (isFor part straps 2 frame) (drivenByWrite (length frame)) 0)
 
 -- the value of a read is fixed on clock 15, by that sample, after the controller's part of that clock
 abbrev pub found : List ℕ → World → ℕ
 found frame w =
     let v = through (take 14 frame) w in
     let sample = getD frame 14 0 in
-    valueOf (afterController (v .device)) sample (addressIn frame)
-    (getD (imageAfter (v .device) (v .image) sample) (arrayAddress (addressIn frame)) 0)
+    let address = addressIn (w .device .part) frame in
+    valueOf (afterController (v .device)) sample address
+    (getD (imageAfter (v .device) (v .image) sample) (arrayAddress address) 0)
 
 -- which clocks drive which nibble, of a frame as far as it has come: the frame line is low on its first clock and high on
 -- the others
@@ -91,15 +104,15 @@ FrameDrives =
     → allHigh others ≡ true
     → noneResets (first ∷ others) ≡ true
     → getD (answersTo (first ∷ others) (world d image)) (length others) 0
-    ≡ driven (d .straps) (first ∷ others) (found (first ∷ others) (world d image))
+    ≡ driven (d .part) (d .straps) (first ∷ others) (found (first ∷ others) (world d image))
 
 -- and outside a frame none: from a reset and from power-up on, while the frame line stays high
 unfoldable pub NothingDriven : Type 0
 NothingDriven =
-    (d : Device) (straps : ℕ) (ts : Times) (image : List ℕ) (first : ℕ) (others : List ℕ)
+    (d : Device) (part straps : ℕ) (ts : Times) (image : List ℕ) (first : ℕ) (others : List ℕ)
     → allHigh others ≡ true
     → (isReset first ≡ true → getD (answersTo (first ∷ others) (world d image)) (length others) 0 ≡ 0)
-    × (frameLine first ≡ 1 → getD (answersTo (first ∷ others) (world (freshOf straps ts) image)) (length others) 0 ≡ 0)
+    × (frameLine first ≡ 1 → getD (answersTo (first ∷ others) (world (freshOf part straps ts) image)) (length others) 0 ≡ 0)
 
 -- the numbers of a record, an image and a sample fit the widths that the code's types give them
 abbrev pub fitsWidths : Device → List ℕ → ℕ → Bool
@@ -121,11 +134,15 @@ AnswerByte =
     || (leb 0x10 (deviceClock d image sample .answer) && leb (deviceClock d image sample .answer) 0x1F)
     ≡ true
 
--- two devices that are the same but for the frame in progress: straps, lock registers, times, and the controller with its
+-- two devices that are the same but for the frame in progress: part, straps, lock registers, times, and the controller with its
 -- setup, mode, error bits, operations and marks
 abbrev pub SameButForFrame : Device → Device → Type 0
 SameButForFrame d e =
-    (d .straps ≡ e .straps) × (d .locks ≡ e .locks) × (d .times ≡ e .times) × (d .controller ≡ e .controller)
+    (d .part ≡ e .part)
+    × (d .straps ≡ e .straps)
+    × (d .locks ≡ e .locks)
+    × (d .times ≡ e .times)
+    × (d .controller ≡ e .controller)
 
 -- the sample with its frame line high
 abbrev pub raised : ℕ → ℕ
@@ -138,6 +155,10 @@ SameBehindTheBus v w = SameButForFrame (v .device) (w .device) × (v .image ≡ 
 abbrev pub unheard : List ℕ → World → World
 unheard ss w = through (map raised ss) (world (withFrame (w .device) idle) (w .image))
 
+-- a frame is a read: on FWH by its first nibble, on LPC by the cycle type on clock 2
+abbrev pub isReading : ℕ → List ℕ → Bool
+isReading part frame = cond (isLpc part) (eqb (nibble 2 frame / 2) 2) (eqb (nibble 1 frame) 13)
+
 -- a frame that is broken off by a low frame line, a read on any clock, another on its clock 12 or before, gives no command:
 -- all is as on the same clocks with the bus idle. The frame that is left is the one that the nibble begins; there is none if
 -- it begins none, or if that sample resets
@@ -146,15 +167,16 @@ BrokenOffGivesNothing =
     (d : Device) (image : List ℕ) (first : ℕ) (others : List ℕ) (last : ℕ)
     → frameLine first ≡ 0
     → allHigh others ≡ true
-    → eqb (lines first) 13 || leb (length others) 10 ≡ true
+    → isReading (d .part) (first ∷ others) || leb (length others) 10 ≡ true
     → frameLine last ≡ 0
     → SameBehindTheBus
     (through (first ∷ (others ++ (last ∷ []))) (world d image))
     (unheard (first ∷ (others ++ (last ∷ []))) (world d image))
     × (through (first ∷ (others ++ (last ∷ []))) (world d image) .device .frame
-    ≡ cond (isReset last) idle (begun (lines last)))
+    ≡ cond (isReset last) idle (begun (d .part) (lines last)))
 
--- a frame that is no write for this part (a read, another first nibble, other straps, another size), or has not come to its
+-- a frame that is no write for this part (a read, another first nibble, other straps, another size; on LPC another cycle type or
+-- another part's address), or has not come to its
 -- clock 12, or was cut off by a reset on clock 12 or before, gives no command either
 unfoldable pub OtherFramesGiveNothing : Type 0
 OtherFramesGiveNothing =
@@ -162,7 +184,7 @@ OtherFramesGiveNothing =
     → frameLine first ≡ 0
     → allHigh others ≡ true
     → all
-    (isFor 14 (d .straps) (first ∷ others)
+    (isFor (d .part) (d .straps) 2 (first ∷ others)
     ∷ leb 12 (length (first ∷ others))
     ∷ noneResets (take 12 (first ∷ others))
     ∷ [])
@@ -180,15 +202,16 @@ WriteActs =
     → allHigh others ≡ true
     → noneResets (first ∷ others) ≡ true
     → length others ≡ 11
-    → isFor 14 (d .straps) (first ∷ others) ≡ true
+    → isFor (d .part) (d .straps) 2 (first ∷ others) ≡ true
     → length later ≤ 11
     → let before = through (take 11 (first ∷ others)) (world d image) .device in
-    (askedOf (frameClock (before .straps) (before .frame) (getD (first ∷ others) 11 0))
-    ≡ Write (addressIn (first ∷ others)) (dataIn (first ∷ others)))
+    let address = addressIn (d .part) (first ∷ others) in
+    (askedOf (frameClock (before .part) (before .straps) (before .frame) (getD (first ∷ others) 11 0))
+    ≡ Write address (dataIn (first ∷ others)))
     × SameButForFrame
     (through (first ∷ others) (world d image) .device)
     (reachedOf (afterController before)
-    (getD (first ∷ others) 11 0) (addressIn (first ∷ others)) (dataIn (first ∷ others)) .device)
+    (getD (first ∷ others) 11 0) address (dataIn (first ∷ others)) .device)
     × SameBehindTheBus
     (through ((first ∷ others) ++ later) (world d image))
     (unheard later (through (first ∷ others) (world d image)))
@@ -212,4 +235,4 @@ unfoldable pub RegistersAnswer : Type 0
 RegistersAnswer =
     (d : Device) (sample address byte : ℕ)
     → isArray address ≡ false
-    → valueOf d sample address byte ≡ registerValue (d .locks) sample address
+    → valueOf d sample address byte ≡ registerValue (d .part) (d .straps) (d .locks) sample address

@@ -1,5 +1,5 @@
--- Document 01, "Proved examples": the ten as one table. The device is fresh, with straps 0 and times 1, 3, 2; the image is
--- any image with 5Ah at F0005h, in block 15. Assumes nothing.
+-- Document 01, "Proved examples": the ten as one table, of FWH with straps 0; and document 02, #101: a second table, of LPC. The
+-- device is fresh, with times 1, 3, 2; the image is any image with 5Ah at F0005h, in block 15. Assumes nothing.
 use Prim.Native.Nat.{ℕ, zero, suc, _+_, _-_, _/_, _%_, _<_}
 use mathlib.Core.Path.{_≡_}
 use mathlib.Core.List.{List, [], _∷_, _++_, map}
@@ -84,14 +84,16 @@ shows byte ss w = getD (through ss w .image) 0xF0005 0 ∷ []
 shows marks ss w = through ss w .device .controller .marks ∷ []
 shows controls ss w = through ss w .device .controller .mode ∷ through ss w .device .controller .setup ∷ []
 
--- the samples, what is asked of them, and what is to be seen
+-- the part and its straps, the samples, what is asked of them, and what is to be seen
 pub record Row : Type 0 where
+  pub part : ℕ
+  pub straps : ℕ
   pub samples : List ℕ
   pub question : Question
   pub seen : List ℕ
 
 abbrev row : List ℕ → Question → List ℕ → Row
-row ss q seen = record { samples = ss; question = q; seen = seen }
+row ss q seen = record { part = 0; straps = 0; samples = ss; question = q; seen = seen }
 
 -- a program of 0Fh with lock 15 open, up to its acceptance
 abbrev upToAcceptance : List ℕ
@@ -124,8 +126,55 @@ table =
     ∷ row (upToAcceptance ++ ((inReset + 31) ∷ [])) status (0x80 ∷ [])
     ∷ []
 
-abbrev start : List ℕ → World
-start image = world (freshOf 0 (times 1 3 2)) image
+-- on LPC: the cycle type, and the address with its highest nibble first
+abbrev lpcHead : ℕ → ℕ → List ℕ
+lpcHead type address =
+    leaves normal type
+    ∷ leaves normal (address / 0x10000000 % 16)
+    ∷ leaves normal (address / 0x1000000 % 16)
+    ∷ leaves normal (address / 0x100000 % 16)
+    ∷ leaves normal (address / 0x10000 % 16)
+    ∷ leaves normal (address / 0x1000 % 16)
+    ∷ leaves normal (address / 0x100 % 16)
+    ∷ leaves normal (address / 0x10 % 16)
+    ∷ leaves normal (address % 16)
+    ∷ []
+
+-- a frame of 19 clocks with nothing on the lines behind its head, and one of 17 with a byte there
+abbrev lpcReads : ℕ → ℕ → List ℕ
+lpcReads type address = normal ∷ (lpcHead type address ++ idles normal 9)
+
+abbrev lpcWrites : ℕ → ℕ → ℕ → List ℕ
+lpcWrites type address byte =
+    normal ∷ (lpcHead type address ++ (leaves normal (byte % 16) ∷ leaves normal (byte / 16) ∷ idles normal 5))
+
+abbrev lpcTarget : ℕ
+lpcTarget = 0xFFFF0005
+
+-- a program of 0Fh with lock 15 open, up to its acceptance
+abbrev lpcAcceptance : List ℕ
+lpcAcceptance = lpcWrites 6 0xFFBF0002 0 ++ (lpcWrites 6 lpcTarget 0x40 ++ take 12 (lpcWrites 6 lpcTarget 0x0F))
+
+abbrev lpc : ℕ → List ℕ → Question → List ℕ → Row
+lpc straps ss q seen = record { part = 1; straps = straps; samples = ss; question = q; seen = seen }
+
+abbrev pub lpcTable : List Row
+lpcTable =
+    lpc 0 (lpcReads 4 0xFFBF0002) (answers 19) (replicate 12 0 ++ (0x15 ∷ 0x15 ∷ 0x10 ∷ 0x11 ∷ 0x10 ∷ 0x1F ∷ 0 ∷ []))
+    ∷ lpc 0 (lpcReads 4 0xFFBC0000) (answers 4) (0x10 ∷ 0x10 ∷ 0x1F ∷ 0 ∷ [])
+    ∷ lpc 0 (lpcWrites 6 0xFFF00000 0x90 ++ lpcReads 4 0xFFF00001) (answers 4) (0x1F ∷ 0x12 ∷ 0x1F ∷ 0 ∷ [])
+    ∷ lpc 1 (lpcReads 4 0xFFAF0002) (answers 4) (0x11 ∷ 0x10 ∷ 0x1F ∷ 0 ∷ [])
+    ∷ lpc 1 (lpcReads 4 0xFFBF0002) (answers 19) (replicate 19 0)
+    ∷ lpc 0 (lpcReads 5 0xFFBF0002) (answers 4) (0x11 ∷ 0x10 ∷ 0x1F ∷ 0 ∷ [])
+    ∷ lpc 0 (lpcWrites 7 0xFFF00000 0x90) controls (2 ∷ 0 ∷ [])
+    ∷ lpc 0 (lpcReads 0 0xFFBF0002) (answers 19) (replicate 19 0)
+    ∷ lpc 0 (lpcAcceptance ++ idles normal 32) byte (0x5A ∷ [])
+    ∷ lpc 0 (lpcAcceptance ++ idles normal 33) byte (0x0A ∷ [])
+    ∷ lpc 0 (take 11 (lpcWrites 6 lpcTarget 0x90) ++ ((normal + 9) ∷ idles normal 5)) controls (0 ∷ 0 ∷ [])
+    ∷ []
+
+abbrev start : Row → List ℕ → World
+start r image = world (freshOf (r .part) (r .straps) (times 1 3 2)) image
 
 -- every row shows what is to be seen
 unfoldable pub Examples : Type 0
@@ -133,4 +182,5 @@ Examples =
     (image : List ℕ)
     → 0xF0005 < length image
     → getD image 0xF0005 0 ≡ 0x5A
-    → map (λ (r : Row). shows (r .question) (r .samples) (start image)) table ≡ map (λ (r : Row). r .seen) table
+    → map (λ (r : Row). shows (r .question) (r .samples) (start r image)) (table ++ lpcTable)
+    ≡ map (λ (r : Row). r .seen) (table ++ lpcTable)

@@ -89,9 +89,9 @@ abbrev pub events : List Act → World → List Event
 events [] w = []
 events (a ∷ others) w = befalls a w ++ events others (left a w)
 
--- power-up, on the image as it is then
-abbrev pub atPowerUp : ℕ → ℕ → ℕ → ℕ → List ℕ → World
-atPowerUp straps program slice pause image = world (poweredUp straps program slice pause .device) image
+-- power-up as a part, on the image as it is then
+abbrev pub atPowerUp : ℕ → ℕ → ℕ → ℕ → ℕ → List ℕ → World
+atPowerUp part straps program slice pause image = world (poweredUp part straps program slice pause .device) image
 
 -- the operation of a block, as the device shows it: the one that stands there, running, pausing or suspended
 unfoldable pub isOn : ℕ → Operation → Bool
@@ -204,41 +204,41 @@ operationsIn block history w = operations block (events history w) w
 -- what a history of calls leaves is what befalls the device in them, clock by clock
 unfoldable pub CallsAreClocks : Type 0
 CallsAreClocks =
-    (straps program slice pause : ℕ) (image : List ℕ) (history : List Act)
+    (part straps program slice pause : ℕ) (image : List ℕ) (history : List Act)
     → length image ≡ 1048576
-    → leaving history (atPowerUp straps program slice pause image)
-    ≡ ending (events history (atPowerUp straps program slice pause image)) (atPowerUp straps program slice pause image)
+    → leaving history (atPowerUp part straps program slice pause image)
+    ≡ ending (events history (atPowerUp part straps program slice pause image)) (atPowerUp part straps program slice pause image)
 
 -- demand 3: a block with no mark and no unfinished operation holds what its first contents become
 unfoldable pub Demand3 : Type 0
 Demand3 =
-    (straps program slice pause : ℕ) (image : List ℕ) (history : List Act) (block : ℕ)
+    (part straps program slice pause : ℕ) (image : List ℕ) (history : List Act) (block : ℕ)
     → length image ≡ 1048576
     → block < 16
-    → marked (leaving history (atPowerUp straps program slice pause image) .device .controller .marks) block ≡ false
-    → isThere block (leaving history (atPowerUp straps program slice pause image)) ≡ false
-    → contents block (leaving history (atPowerUp straps program slice pause image) .image)
-    ≡ doneInOrder (operationsIn block history (atPowerUp straps program slice pause image)) (contents block image)
+    → marked (leaving history (atPowerUp part straps program slice pause image) .device .controller .marks) block ≡ false
+    → isThere block (leaving history (atPowerUp part straps program slice pause image)) ≡ false
+    → contents block (leaving history (atPowerUp part straps program slice pause image) .image)
+    ≡ doneInOrder (operationsIn block history (atPowerUp part straps program slice pause image)) (contents block image)
 
 -- and each of its operations was allowed as pins, voltage and lock register stood at its acceptance
 unfoldable pub Demand3Allowed : Type 0
 Demand3Allowed =
-    (straps program slice pause : ℕ) (image : List ℕ) (history : List Act) (block : ℕ)
+    (part straps program slice pause : ℕ) (image : List ℕ) (history : List Act) (block : ℕ)
     → length image ≡ 1048576
     → block < 16
-    → allAllowed block (operationsIn block history (atPowerUp straps program slice pause image)) ≡ true
+    → allAllowed block (operationsIn block history (atPowerUp part straps program slice pause image)) ≡ true
 
 -- the same of a run, block by block: its samples are a history of steps from power-up, and what stands on other blocks is
 -- not asked
 unfoldable pub Demand3Run : Type 0
 Demand3Run =
-    (image stream answers : List ℕ) (straps program slice pause : ℕ) (block : ℕ)
+    (image stream answers : List ℕ) (part straps program slice pause : ℕ) (block : ℕ)
     → block < 16
-    → ranOf image stream answers straps program slice pause .report .number ≡ 0
-    → marked (ranOf image stream answers straps program slice pause .report .marks) block ≡ false
-    → isThere block (leaving (map step (samples stream)) (atPowerUp straps program slice pause image)) ≡ false
-    → contents block (ranOf image stream answers straps program slice pause .image)
-    ≡ doneInOrder (operationsIn block (map step (samples stream)) (atPowerUp straps program slice pause image)) (contents block image)
+    → ranOf image stream answers part straps program slice pause .report .number ≡ 0
+    → marked (ranOf image stream answers part straps program slice pause .report .marks) block ≡ false
+    → isThere block (leaving (map step (samples stream)) (atPowerUp part straps program slice pause image)) ≡ false
+    → contents block (ranOf image stream answers part straps program slice pause .image)
+    ≡ doneInOrder (operationsIn block (map step (samples stream)) (atPowerUp part straps program slice pause image)) (contents block image)
 
 -- the status register tells of no operation: bit 7 is 1, bits 6 and 2 are 0
 abbrev pub tellsNone : ℕ → Bool
@@ -248,13 +248,13 @@ tellsNone status =
 -- and by what the host is told of the run
 unfoldable pub Demand3Told : Type 0
 Demand3Told =
-    (image stream answers : List ℕ) (straps program slice pause : ℕ) (block : ℕ)
+    (image stream answers : List ℕ) (part straps program slice pause : ℕ) (block : ℕ)
     → block < 16
-    → ranOf image stream answers straps program slice pause .report .number ≡ 0
-    → marked (ranOf image stream answers straps program slice pause .report .marks) block ≡ false
-    → tellsNone (ranOf image stream answers straps program slice pause .report .status) ≡ true
-    → contents block (ranOf image stream answers straps program slice pause .image)
-    ≡ doneInOrder (operationsIn block (map step (samples stream)) (atPowerUp straps program slice pause image)) (contents block image)
+    → ranOf image stream answers part straps program slice pause .report .number ≡ 0
+    → marked (ranOf image stream answers part straps program slice pause .report .marks) block ≡ false
+    → tellsNone (ranOf image stream answers part straps program slice pause .report .status) ≡ true
+    → contents block (ranOf image stream answers part straps program slice pause .image)
+    ≡ doneInOrder (operationsIn block (map step (samples stream)) (atPowerUp part straps program slice pause image)) (contents block image)
 
 -- a run that is done is its samples stepped one by one: their number, their answers with the bytes past them as lent, the
 -- status and the marks of the last device, and the image
@@ -264,10 +264,10 @@ answering (s ∷ ss) w = steppedOf (w .device) (w .image) s .answer ∷ answerin
 
 unfoldable pub RunIsSteps : Type 0
 RunIsSteps =
-    (image stream answers : List ℕ) (straps program slice pause : ℕ)
-    → ranOf image stream answers straps program slice pause .report .number ≡ 0
-    → let start = atPowerUp straps program slice pause image in
+    (image stream answers : List ℕ) (part straps program slice pause : ℕ)
+    → ranOf image stream answers part straps program slice pause .report .number ≡ 0
+    → let start = atPowerUp part straps program slice pause image in
     let end = leaving (map step (samples stream)) start in
-    ranOf image stream answers straps program slice pause
+    ranOf image stream answers part straps program slice pause
     ≡ ran (report 0 (length (samples stream)) (statusOf (end .device .controller)) (end .device .controller .marks)) (end .image)
     (answering (samples stream) start ++ drop (length (samples stream)) answers)

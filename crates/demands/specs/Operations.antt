@@ -14,7 +14,7 @@ use Rattle.units.specs.Units.{clocks}
 use Rattle.record.specs.declared.Operation.{Operation}
 use Rattle.record.specs.declared.Controller.{Controller}
 use Rattle.record.specs.declared.Device.{Device}
-use Rattle.record.specs.Record.{device, controller, operation, idle, absent, isAbsent, isProgram, isErase, isRunning, isPausing, isSuspended, withPause, blockOf}
+use Rattle.record.specs.Record.{isLpc, device, controller, operation, idle, absent, isAbsent, isProgram, isErase, isRunning, isPausing, isSuspended, withPause, blockOf}
 use Rattle.record.specs.Sample.{tbl, wp, voltage, isReset}
 use Rattle.part.specs.Fresh.{freshOf}
 use Rattle.soundness.specs.Sound.{soundOf}
@@ -37,7 +37,7 @@ unset d =
 
 -- what the frame has come to ask on this clock
 abbrev pub askedOn : Device → ℕ → Asked
-askedOn d sample = askedOf (frameClock (d .straps) (d .frame) sample)
+askedOn d sample = askedOf (frameClock (d .part) (d .straps) (d .frame) sample)
 
 -- a byte that passes a test is written to the array
 abbrev pub writesToArray : (ℕ → Bool) → Asked → Bool
@@ -137,12 +137,13 @@ Counts =
     × (next .setup ≡ c .setup))
 
 -- set times leaves every operation as it is, and an operation counts, pauses and resumes by its own copy: what a clock outside
--- a setup makes of the controller does not depend on the device's times. And no clock changes straps or times
+-- a setup makes of the controller does not depend on the device's times. And no clock changes part, straps or times
 unfoldable pub TimesBindLater : Type 0
 TimesBindLater =
     (d : Device) (image : List ℕ) (program slice pause sample : ℕ) (ts : Times)
     → (timesSet d program slice pause .device .controller ≡ d .controller)
     × (deviceClock (withTimes (unset d) ts) image sample .device .controller ≡ deviceClock (unset d) image sample .device .controller)
+    × (deviceClock d image sample .device .part ≡ d .part)
     × (deviceClock d image sample .device .straps ≡ d .straps)
     × (deviceClock d image sample .device .times ≡ d .times)
 
@@ -172,23 +173,23 @@ EffectsDue =
     (filled image (blockOf (o .address) * 65536 + (256 - o .slices) * 256) 256 255))
 
 -- reset: nothing is driven, frame and setup are dropped, locks become 01h, mode becomes read array, error bits clear, every
--- operation is gone; straps, times and image stay
+-- operation is gone; part, straps, times and image stay
 unfoldable pub ResetLeaves : Type 0
 ResetLeaves =
     (d : Device) (image : List ℕ) (sample : ℕ)
     → isReset sample ≡ true
     → (deviceClock d image sample .device
-    ≡ device (d .straps) (replicate 16 1) (d .times) idle
+    ≡ device (d .part) (d .straps) (replicate 16 1) (d .times) idle
     (controller 0 0 0 (deviceClock d image sample .device .controller .marks) absent absent))
     × (deviceClock d image sample .answer ≡ 0)
     × (imageAfter d image sample ≡ image)
 
--- a fresh device has these straps and times, and all else as reset leaves it, with no mark
+-- a fresh device is this part with these straps and times, and all else as reset leaves it, with no mark
 unfoldable pub FreshAsReset : Type 0
 FreshAsReset =
-    (straps : ℕ) (ts : Times)
-    → (freshOf straps ts ≡ device straps (replicate 16 1) ts idle (controller 0 0 0 0 absent absent))
-    × (resetDevice (freshOf straps ts) ≡ freshOf straps ts)
+    (part straps : ℕ) (ts : Times)
+    → (freshOf part straps ts ≡ device part straps (replicate 16 1) ts idle (controller 0 0 0 0 absent absent))
+    × (resetDevice (freshOf part straps ts) ≡ freshOf part straps ts)
 
 -- a block is marked by a reset that cuts off an operation on it, unmarked by an erase of it that finishes, and by nothing
 -- else is a mark changed
@@ -229,8 +230,14 @@ ErrorBits =
     (bitOr (d .controller .errors)
     (cond (leavesUnconfirmed c asked) 0x30 (cond (isJudged c asked) (failure c (d .locks) sample asked) 0))))
 
--- lock registers: a reset makes them 01h; bits 0 to 2 of a byte written to FB00002h + b times 10000h become block b's while
--- its lock-down bit, bit 1, is 0; and no other clock changes one
+-- the lock register of a block: FB00002h + b times 10000h; on LPC FF800002h + b times 10000h, with bits 21 and 20 as the
+-- straps inverted say
+abbrev pub lockPlace : ℕ → ℕ → ℕ → ℕ
+lockPlace part straps block =
+    cond (isLpc part) (0xFF800002 + (3 - straps) * 0x100000 + block * 0x10000) (0xFB00002 + block * 0x10000)
+
+-- a reset makes lock registers 01h; bits 0 to 2 of a byte written to block b's place become block b's while its lock-down bit,
+-- bit 1, is 0; and no other clock changes one
 abbrev pub writesTo : ℕ → Asked → Bool
 writesTo place Nothing = false
 writesTo place (Read address) = false
@@ -250,4 +257,4 @@ LocksChange =
     let lock = getD (d .locks) block 0 in
     getD (deviceClock d image sample .device .locks) block 0
     ≡ cond (isReset sample) 1
-    (cond (writesTo (0xFB00002 + block * 0x10000) asked && eqb (lock / 2 % 2) 0) (byteOf asked % 8) lock)
+    (cond (writesTo (lockPlace (d .part) (d .straps) block) asked && eqb (lock / 2 % 2) 0) (byteOf asked % 8) lock)

@@ -146,12 +146,12 @@ seen (m ∷ ms) w = look m w ∷ seen ms (past m w)
 -- place leaves what a step leaves.)
 unfoldable pub PinsReachNoOperation : Type 0
 PinsReachNoOperation =
-    (straps program slice pause : ℕ) (image : List ℕ) (before : List Act) (one other : List Moment)
+    (part straps program slice pause : ℕ) (image : List ℕ) (before : List Act) (one other : List Moment)
     → length image ≡ 1048576
     → map bare one ≡ map bare other
     → allFit one ≡ true
     → allFit other ≡ true
-    → judgements one (leaving before (atPowerUp straps program slice pause image))
-    ≡ judgements other (leaving before (atPowerUp straps program slice pause image))
-    → seen one (leaving before (atPowerUp straps program slice pause image))
-    ≡ seen other (leaving before (atPowerUp straps program slice pause image))
+    → judgements one (leaving before (atPowerUp part straps program slice pause image))
+    ≡ judgements other (leaving before (atPowerUp part straps program slice pause image))
+    → seen one (leaving before (atPowerUp part straps program slice pause image))
+    ≡ seen other (leaving before (atPowerUp part straps program slice pause image))

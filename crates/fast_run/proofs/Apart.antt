@@ -31,7 +31,7 @@ module _ (d : Device) (image : List ℕ) where
       ≡ imageLater (n + 1) (d .controller) image
   next-image n = later-twice n 1 (d .controller) image .1
 
-  module _ (n : ℕ) (f g : Frame) (sample : ℕ) (r : isReset sample ≡ false) (e : frameClock (d .straps) f sample ≡ g) where
+  module _ (n : ℕ) (f g : Frame) (sample : ℕ) (r : isReset sample ≡ false) (e : frameClock (d .part) (d .straps) f sample ≡ g) where
     clocked : deviceClock (deviceLater n f d) (imageLater n (d .controller) image) sample
         ≡ replied
         (answeredTo (askedOf g) (withFrame (afterController (deviceLater n f d)) g) (applied (controllerClock (controllerLater n (d .controller)) .effect) (imageLater n (d .controller) image)) sample)

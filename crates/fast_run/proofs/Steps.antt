@@ -90,11 +90,11 @@ module _ (d : Device) (image s : List ℕ) (k : ℕ) (f : Frame) (b : List ℕ) 
   pub write-step : (n to : ℕ) (c : List ℕ)
       → 2 * to ≤ length s
       → to ≤ length b
-      → wholeFrame s (d .straps) 14 k to 12 ≡ true
+      → wholeFrame s (d .part) (d .straps) 2 k to 12 ≡ true
       → c ≡ filled b k 12 0
       → Simulates s k (worldLater d image n f) b (k + 12) (writtenWorld d image s k n) c
   write-step n to c l r q z =
-      let room = whole-room s (d .straps) 14 k to 12 q in
+      let room = whole-room s (d .part) (d .straps) 2 k to 12 q in
       lands s k (k + 12) _ _ (replicate 12 0) b c (whole-write d image s k to n f q l) (omega arith) (z ∙ put-filled b k 12)
 
   -- the bus alone: not at all
@@ -131,7 +131,7 @@ module _ (d : Device) (image s : List ℕ) (k : ℕ) (f : Frame) (b : List ℕ) 
       → 2 * k + 1 < length s
       → k < length b
       → isReset (sampleAt s k) ≡ false
-      → e ≡ frameClock (d .straps) f (sampleAt s k)
+      → e ≡ frameClock (d .part) (d .straps) f (sampleAt s k)
       → askedOf e ≡ Silent
       → c ≡ set b k (drivenOf e)
       → length c ≡ length b
@@ -143,15 +143,15 @@ module _ (d : Device) (image s : List ℕ) (k : ℕ) (f : Frame) (b : List ℕ) 
   -- a whole read
   pub alone-read : (to byte : ℕ) (c : List ℕ)
       → Room d image s b to
-      → wholeFrame s (d .straps) 13 k to 18 ≡ true
-      → byte ≡ valueOf d (sampleAt s (k + 14)) (addressAt s (k + 2)) (getD image (arrayAddress (addressAt s (k + 2))) 0)
+      → wholeFrame s (d .part) (d .straps) 1 k to 18 ≡ true
+      → byte ≡ valueOf d (sampleAt s (k + 14)) (addressAt (d .part) s (k + 2)) (getD image (arrayAddress (addressAt (d .part) s (k + 2))) 0)
       → c ≡ put b k (readAnswers byte)
       → length c ≡ length b
-      → Alone d image s k f b (k + 18) (frame 1 18 byte (addressAt s (k + 2))) c
+      → Alone d image s k f b (k + 18) (frame 1 18 byte (addressAt (d .part) s (k + 2))) c
   alone-read to byte c r q e z size =
       let fit = parts d (r .sound) .controller in
-      let room = whole-room s (d .straps) 13 k to 18 q in
-      let a = addressAt s (k + 2) in
+      let room = whole-room s (d .part) (d .straps) 1 k to 18 q in
+      let a = addressAt (d .part) s (k + 2) in
       by 18 (frame 1 18 byte a) c size
       (λ n h.
       let near : n + 15 ≤ controllerBeforeDue (d .controller) = omega arith in

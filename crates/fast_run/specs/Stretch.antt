@@ -14,7 +14,7 @@ use Rattle.record.specs.Sample.{samples}
 
 -- a device n clocks later with another frame, nothing having been said to its controller
 abbrev pub deviceLater : ℕ → Frame → Device → Device
-deviceLater n f d = device (d .straps) (d .locks) (d .times) f (controllerLater n (d .controller))
+deviceLater n f d = device (d .part) (d .straps) (d .locks) (d .times) f (controllerLater n (d .controller))
 
 -- with its image
 abbrev pub worldLater : Device → List ℕ → ℕ → Frame → World

@@ -56,13 +56,13 @@ struct Sought {
 }
 
 // The same of the read that begins at place k.
-fn sought_at(stream: &[u8], k: usize) -> Sought
+fn sought_at(part: u8, stream: &[u8], k: usize) -> Sought
     requires { ⌜ 2 * (k + 18) ≤ length (now stream) ⌝ }
-    ensures { λ r. ⌜ (r .address ≡ addressAt (now (stream .entry)) (k + 2))
-        × (r .place ≡ arrayAddress (addressAt (now (stream .entry)) (k + 2)))
+    ensures { λ r. ⌜ (r .address ≡ addressAt part (now (stream .entry)) (k + 2))
+        × (r .place ≡ arrayAddress (addressAt part (now (stream .entry)) (k + 2)))
         × (r .sample ≡ sampleAt (now (stream .entry)) (k + 14)) ⌝ }
 {
-    let address = address_at(stream, k + 2);
+    let address = address_at(part, stream, k + 2);
     Sought {
         address,
         place: array_address(address) as usize,
@@ -71,7 +71,7 @@ fn sought_at(stream: &[u8], k: usize) -> Sought
 }
 
 // Whether the bus stops before a sample: it resets, or a whole write begins with it.
-fn stops_before(stream: &[u8], straps: u8, k: usize, to: usize) -> bool
+fn stops_before(stream: &[u8], part: u8, straps: u8, k: usize, to: usize) -> bool
     requires { ⌜ k < to ⌝ }
     requires { ⌜ 2 * to ≤ length (now stream) ⌝ }
     ensures { λ r. ⌜ (r ≡ false → isReset (sampleAt (now (stream .entry)) k) ≡ false) ⌝ }
@@ -79,7 +79,7 @@ fn stops_before(stream: &[u8], straps: u8, k: usize, to: usize) -> bool
     if is_reset(sample_at(stream, k)) {
         return true;
     }
-    is_whole_frame(stream, straps, 14, k, to, 12)
+    is_whole_frame(stream, part, straps, 2, k, to, 12)
 }
 
 // Whether a frame asks for nothing.
@@ -96,6 +96,7 @@ fn is_silent(f: Frame) -> bool
 // One clock of the bus alone, or none: it stops before a reset, before a whole write, and before a clock on which the frame
 // asks for something.
 fn clock_bus(
+    part: u8,
     straps: u8,
     stream: &[u8],
     answers: &mut [u8],
@@ -107,13 +108,14 @@ fn clock_bus(
     requires { ⌜ 2 * to ≤ length (now stream) ⌝ }
     requires { ⌜ to ≤ length (now answers) ⌝ }
     ensures { λ r. ⌜ (r .place ≤ to)
-        × ((d : Device) (image : List ℕ) → d .straps ≡ straps
+        × ((d : Device) (image : List ℕ) → d .part ≡ part
+        → d .straps ≡ straps
         → Alone d image (now (stream .entry)) k f (now (answers .entry)) (r .place) (r .frame) (now (answers .exit))) ⌝ }
 {
-    if stops_before(stream, straps, k, to) {
+    if stops_before(stream, part, straps, k, to) {
         return BusAlone { place: k, frame: f };
     }
-    let next = clock_frame(straps, f, sample_at(stream, k));
+    let next = clock_frame(part, straps, f, sample_at(stream, k));
     if is_silent(next) {
         answers[k] = drive(next);
         return BusAlone {
@@ -147,8 +149,8 @@ fn run_bus_alone(
         if stays_idle(f, sample_at(stream, k)) {
             k = skip_idle(stream, answers, k, to);
             f = end_frame(f);
-        } else if is_whole_frame(stream, d.straps, 13, k, to, 18) {
-            let r = sought_at(stream, k);
+        } else if is_whole_frame(stream, d.part, d.straps, 1, k, to, 18) {
+            let r = sought_at(d.part, stream, k);
             let address = r.address;
             let at = r.place;
             let byte = value(d, r.sample, address, image[at]);
@@ -161,7 +163,7 @@ fn run_bus_alone(
             };
             k += 18;
         } else {
-            let t = clock_bus(d.straps, stream, answers, f, k, to);
+            let t = clock_bus(d.part, d.straps, stream, answers, f, k, to);
             if t.place == k {
                 return t;
             }
@@ -239,12 +241,12 @@ fn stretch_write(
     requires { ⌜ Room d (now image) (now stream) (now answers) n ⌝ }
     requires { ⌜ at + 12 ≤ n ⌝ }
     requires { ⌜ behind ≤ at ⌝ }
-    requires { ⌜ wholeFrame (now stream) (d .straps) 14 at n 12 ≡ true ⌝ }
+    requires { ⌜ wholeFrame (now stream) (d .part) (d .straps) 2 at n 12 ≡ true ⌝ }
     ensures { λ r. ⌜ Stretched (now (stream .entry)) at (worldLater d (now (image .entry)) behind f) (now (answers .entry))
         n (r .place) (world (r .device) (now (image .exit))) (now (answers .exit)) ⌝ }
 {
     let byte = byte_at(stream, at);
-    let address = address_at(stream, at + 2);
+    let address = address_at(d.part, stream, at + 2);
     let last = Frame {
         kind: 2,
         clock: 12,
@@ -305,7 +307,7 @@ fn stretch_on(
     if stays_idle(f, sample_at(stream, at)) {
         return stretch_idle(d, image, stream, answers, f, behind, at, n);
     }
-    if is_whole_frame(stream, d.straps, 14, at, n, 12) {
+    if is_whole_frame(stream, d.part, d.straps, 2, at, n, 12) {
         return stretch_write(d, image, stream, answers, f, behind, at, n);
     }
     let e = device_later(d, image, f, behind);

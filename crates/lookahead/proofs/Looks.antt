@@ -1,20 +1,22 @@
 -- The loops that look over samples, turn by turn. Assumes nothing.
-use mathlib.Core.Path.{_≡_, _∙_, refl}
+use mathlib.Core.Path.{_≡_, _∙_, sym, refl}
 use mathlib.Core.Bool.{Bool, true, false, _&&_}
 use mathlib.Core.List.{List}
 use Prim.Native.Nat.{ℕ, zero, suc, _+_, _-_, _<_, _≤_}
+use native.Mathlib.Nat.{add-zero}
 use native.Mathlib.Numerals.{add-one}
 use native.Mathlib.Omega.{arith}
 use lib.Dec.{leb}
 use lib.ListN.{length}
-use borrow.Author.Tests.{eq-eqb, ne-eqb, le-leb, lt-leb, leb-true}
+use borrow.Author.Tests.{le-leb, lt-leb, leb-true}
 use Rattle.basics.proofs.Rules.{ask, yes, no, clash, and-left, and-right, and-both}
 use Rattle.basics.specs.Bytes.{filled}
 use Rattle.basics.proofs.Filled.{filled-none}
 use Rattle.basics.proofs.Joined.{filled-filled}
 use Rattle.bus.specs.Frames.{shifted}
+use Rattle.record.specs.Record.{isLpc}
 use Rattle.record.specs.Sample.{lines, isIdleSample, sampleAt}
-use Rattle.lookahead.specs.Lookahead.{isStart, allIdle, addressOver, wholeFrame, sixteenIdle, Skipped}
+use Rattle.lookahead.specs.Lookahead.{isStart, allIdle, addressOver, addressAt, startOf, headFits, wholeFrame, sixteenIdle, Skipped}
 
 pub idle-turn : (s : List ℕ) (k m n : ℕ) (all : Bool) → n ≡ m + 1
     → ((all && isIdleSample (sampleAt s k)) && allIdle s (k + 1) m) ≡ (all && allIdle s k n)
@@ -25,34 +27,50 @@ pub idle-end : (all : Bool) → (all && true) ≡ all
 idle-end true = refl
 idle-end false = refl
 
-pub address-turn : (s : List ℕ) (k m n address : ℕ) → n ≡ m + 1
-    → addressOver s (k + 1) m (shifted address (lines (sampleAt s k))) ≡ addressOver s k n address
-address-turn s k m n address e = rw (e, add-one m)
+pub address-turn : (part : ℕ) (s : List ℕ) (k m n address : ℕ) → n ≡ m + 1
+    → addressOver part s (k + 1) m (shifted part address (lines (sampleAt s k))) ≡ addressOver part s k n address
+address-turn part s k m n address e = rw (e, add-one m)
+
+-- one nibble more
+pub address-more : (part : ℕ) (s : List ℕ) (k n a : ℕ)
+    → addressOver part s k (suc n) a ≡ shifted part (addressOver part s k n a) (lines (sampleAt s (k + n)))
+address-more part s k zero a = rw add-zero
+address-more part s k (suc n) a =
+    let e : k + suc n ≡ k + 1 + n = omega arith in
+    rw e (address-more part s (k + 1) n (shifted part a (lines (sampleAt s k))))
+
+module _ (part : ℕ) (s : List ℕ) (k : ℕ) where
+  pub eight-nibbles : isLpc part ≡ true
+      → shifted part (addressOver part s k 7 0) (lines (sampleAt s (k + 7))) ≡ addressAt part s k
+  unfolding addressAt
+  eight-nibbles l = rw l (sym (address-more part s k 7 0))
+
+  pub seven-nibbles : isLpc part ≡ false → addressOver part s k 7 0 ≡ addressAt part s k
+  unfolding addressAt
+  seven-nibbles l = rw l
 
 -- a frame that lies whole in the stream, test by test
-module _ (s : List ℕ) (straps nibble k to n : ℕ) where
-  pub whole-not-begun : isStart nibble (sampleAt s k) ≡ false → false ≡ wholeFrame s straps nibble k to n
+module _ (s : List ℕ) (part straps kind k to n : ℕ) where
+  abbrev Whole : Bool → Type 0
+  Whole t = t ≡ wholeFrame s part straps kind k to n
+
+  pub whole-not-begun : isStart (startOf part kind) (sampleAt s k) ≡ false → Whole false
   unfolding wholeFrame
   whole-not-begun a = rw a
 
-  module _ (a : isStart nibble (sampleAt s k) ≡ true) where
-    pub whole-cut : to - k < n → false ≡ wholeFrame s straps nibble k to n
+  module _ (a : isStart (startOf part kind) (sampleAt s k) ≡ true) where
+    pub whole-cut : to - k < n → Whole false
     unfolding wholeFrame
     whole-cut b = rw (a, lt-leb n (to - k) b)
 
     module _ (b : n ≤ to - k) where
-      pub whole-strap : (lines (sampleAt s (k + 1)) ≡ straps → ⊥) → false ≡ wholeFrame s straps nibble k to n
+      pub whole-other : headFits s part straps kind k ≡ false → Whole false
       unfolding wholeFrame
-      whole-strap c = rw (a, le-leb n (to - k) b, ne-eqb _ _ c)
+      whole-other c = rw (a, le-leb n (to - k) b, c)
 
-      module _ (c : lines (sampleAt s (k + 1)) ≡ straps) where
-        pub whole-size : (lines (sampleAt s (k + 9)) ≡ 0 → ⊥) → false ≡ wholeFrame s straps nibble k to n
-        unfolding wholeFrame
-        whole-size e = rw (a, le-leb n (to - k) b, eq-eqb _ _ c, ne-eqb _ _ e)
-
-        pub whole-head : lines (sampleAt s (k + 9)) ≡ 0 → allIdle s (k + 1) (n - 1) ≡ wholeFrame s straps nibble k to n
-        unfolding wholeFrame
-        whole-head e = rw (a, le-leb n (to - k) b, eq-eqb _ _ c, eq-eqb _ _ e)
+      pub whole-head : headFits s part straps kind k ≡ true → Whole (allIdle s (k + 1) (n - 1))
+      unfolding wholeFrame
+      whole-head c = rw (a, le-leb n (to - k) b, c)
 
 -- and sixteen idle samples
 module _ (s : List ℕ) (k to : ℕ) where

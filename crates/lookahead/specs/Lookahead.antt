@@ -7,10 +7,10 @@ use mathlib.Core.List.{List, [], _∷_, _++_}
 use lib.Dec.{eqb, leb}
 use lib.ListN.{replicate}
 use Rattle.record.specs.declared.Frame.{Frame}
-use Rattle.record.specs.Record.{idle, isIdle, isRead}
+use Rattle.record.specs.Record.{isLpc, idle, isIdle, isRead}
 use Rattle.record.specs.Sample.{lines, frameLine, isReset, isIdleSample, sampleAt}
 use Rattle.basics.specs.Bytes.{filled}
-use Rattle.bus.specs.Frames.{shifted}
+use Rattle.bus.specs.Frames.{shifted, isChosen}
 
 -- a frame begins with this nibble: the frame line is low, and nothing resets
 unfoldable pub isStart : ℕ → ℕ → Bool
@@ -22,13 +22,13 @@ allIdle s k zero = true
 allIdle s k (suc n) = isIdleSample (sampleAt s k) && allIdle s (k + 1) n
 
 -- the address that n samples from place k on shift in behind one that stands already
-abbrev pub addressOver : List ℕ → ℕ → ℕ → ℕ → ℕ
-addressOver s k zero address = address
-addressOver s k (suc n) address = addressOver s (k + 1) n (shifted address (lines (sampleAt s k)))
+abbrev pub addressOver : ℕ → List ℕ → ℕ → ℕ → ℕ → ℕ
+addressOver part s k zero address = address
+addressOver part s k (suc n) address = addressOver part s (k + 1) n (shifted part address (lines (sampleAt s k)))
 
--- the address whose seven nibbles, highest first, stand from place k on
-unfoldable pub addressAt : List ℕ → ℕ → ℕ
-addressAt s k = addressOver s k 7 0
+-- the address whose nibbles, highest first, stand from place k on: seven, on LPC eight
+unfoldable pub addressAt : ℕ → List ℕ → ℕ → ℕ
+addressAt part s k = addressOver part s k (cond (isLpc part) 8 7) 0
 
 -- no frame, or one with only its last clock to come, on which nothing is driven
 unfoldable pub isFrameOver : Frame → Bool
@@ -41,16 +41,24 @@ staysIdle f sample = cond (isIdleSample sample) (isFrameOver f) false
 unfoldable pub endedFrame : Frame → Frame
 endedFrame f = cond (isIdle f) f idle
 
--- at place k begins a frame with this nibble whose first n clocks lie before place `to`: on the first the frame line is
--- low, RP and INIT high, all others are idle, the straps match, the size is 0
-unfoldable pub wholeFrame : List ℕ → ℕ → ℕ → ℕ → ℕ → ℕ → Bool
-wholeFrame s straps nibble k to n =
-    cond (isStart nibble (sampleAt s k))
-    (cond (leb n (to - k))
-    (cond (eqb (lines (sampleAt s (k + 1))) straps)
-    (cond (eqb (lines (sampleAt s (k + 9))) 0) (allIdle s (k + 1) (n - 1)) false)
-    false)
-    false)
+-- the nibble with which a frame of a kind (1 reads, 2 writes) begins
+unfoldable pub startOf : ℕ → ℕ → ℕ
+startOf part kind = cond (isLpc part) 0 (12 + kind)
+
+-- the head of a frame that begins at place k is for this part: the straps match and the size is 0; on LPC the cycle type is of
+-- the kind, and the address is chosen
+unfoldable pub headFits : List ℕ → ℕ → ℕ → ℕ → ℕ → Bool
+headFits s part straps kind k =
+    cond (isLpc part)
+    (cond (eqb (lines (sampleAt s (k + 1)) / 2) (1 + kind)) (isChosen straps (addressAt part s (k + 2))) false)
+    (cond (eqb (lines (sampleAt s (k + 1))) straps) (eqb (lines (sampleAt s (k + 9))) 0) false)
+
+-- at place k begins a frame of this kind whose first n clocks lie before place `to`: on the first the frame line is low, RP and
+-- INIT high, all others are idle, and its head fits
+unfoldable pub wholeFrame : List ℕ → ℕ → ℕ → ℕ → ℕ → ℕ → ℕ → Bool
+wholeFrame s part straps kind k to n =
+    cond (isStart (startOf part kind) (sampleAt s k))
+    (cond (leb n (to - k)) (cond (headFits s part straps kind k) (allIdle s (k + 1) (n - 1)) false) false)
     false
 
 -- the sixteen samples from place k on are idle and lie before place `to`

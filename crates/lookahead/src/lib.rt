@@ -2,6 +2,7 @@
 use basics::both;
 use basics::fill;
 use bus::drive;
+use bus::is_chosen;
 use bus::shift;
 use record::Frame;
 use record::frame_line;
@@ -16,7 +17,7 @@ ghost use Prim.Native.Nat.{_+_, _*_, _≤_, _<_};
 ghost use lib.ListN.{length};
 ghost use Rattle.record.specs.Sample.{lines, isIdleSample, sampleAt};
 ghost use Rattle.basics.specs.Bytes.{put};
-ghost use Rattle.lookahead.specs.Lookahead.{isStart, allIdle, addressAt, isFrameOver, staysIdle, endedFrame, wholeFrame, sixteenIdle, byteAt, readAnswers, Skipped};
+ghost use Rattle.lookahead.specs.Lookahead.{isStart, allIdle, addressOver, addressAt, startOf, headFits, isFrameOver, staysIdle, endedFrame, wholeFrame, sixteenIdle, byteAt, readAnswers, Skipped};
 
 // Whether a frame begins with this nibble.
 fn is_start(sample: u16, nibble: u8) -> bool
@@ -54,25 +55,67 @@ fn lines_at(stream: &[u8], k: usize) -> u8
 }
 
 // The address that seven samples shift in.
-pub fn address_at(stream: &[u8], from: usize) -> u32
+fn seven_at(part: u8, stream: &[u8], from: usize) -> u32
     requires { ⌜ 2 * (from + 7) ≤ length (now stream) ⌝ }
-    ensures { λ r. ⌜ r ≡ addressAt (now (stream .entry)) from ⌝ }
+    ensures { λ r. ⌜ r ≡ addressOver part (now (stream .entry)) from 7 0 ⌝ }
 {
     let mut address: u32 = 0;
     let mut i: usize = 0;
     while i < 7 {
-        address = shift(address, lines_at(stream, from + i));
+        address = shift(part, address, lines_at(stream, from + i));
         i += 1;
     }
     address
 }
 
-// Whether at place k a frame begins with this nibble whose first `clocks` clocks lie before place `to`: the straps match,
-// the size is 0, and all its other samples are idle.
+// The address from a place on: seven nibbles, on LPC eight.
+pub fn address_at(part: u8, stream: &[u8], from: usize) -> u32
+    requires { ⌜ 2 * (from + 8) ≤ length (now stream) ⌝ }
+    ensures { λ r. ⌜ r ≡ addressAt part (now (stream .entry)) from ⌝ }
+{
+    let seven = seven_at(part, stream, from);
+    if part == 1 {
+        return shift(part, seven, lines_at(stream, from + 7));
+    }
+    seven
+}
+
+// The nibble with which a frame of a kind begins: 1 reads, 2 writes.
+fn start_of(part: u8, kind: u8) -> u8
+    requires { ⌜ kind < 3 ⌝ }
+    ensures { λ r. ⌜ r ≡ startOf part kind ⌝ }
+{
+    if part == 1 {
+        return 0;
+    }
+    12 + kind
+}
+
+// Whether the head of a frame is for this part.
+fn head_fits(stream: &[u8], part: u8, straps: u8, kind: u8, k: usize) -> bool
+    requires { ⌜ kind < 3 ⌝ }
+    requires { ⌜ 2 * (k + 10) ≤ length (now stream) ⌝ }
+    ensures { λ r. ⌜ r ≡ headFits (now (stream .entry)) part straps kind k ⌝ }
+{
+    if part == 1 {
+        if lines_at(stream, k + 1) / 2 == 1 + kind {
+            return is_chosen(straps, address_at(part, stream, k + 2));
+        }
+        return false;
+    }
+    if lines_at(stream, k + 1) == straps {
+        return lines_at(stream, k + 9) == 0;
+    }
+    false
+}
+
+// Whether at place k a frame of this kind begins whose first `clocks` clocks lie before place `to`: its head is for this part,
+// and all its samples but the first are idle.
 pub fn is_whole_frame(
     stream: &[u8],
+    part: u8,
     straps: u8,
-    nibble: u8,
+    kind: u8,
     k: usize,
     to: usize,
     clocks: usize,
@@ -80,15 +123,13 @@ pub fn is_whole_frame(
     requires { ⌜ k < to ⌝ }
     requires { ⌜ 2 * to ≤ length (now stream) ⌝ }
     requires { ⌜ 10 ≤ clocks ⌝ }
-    ensures { λ r. ⌜ r ≡ wholeFrame (now (stream .entry)) straps nibble k to clocks ⌝ }
+    requires { ⌜ kind < 3 ⌝ }
+    ensures { λ r. ⌜ r ≡ wholeFrame (now (stream .entry)) part straps kind k to clocks ⌝ }
 {
-    if is_start(sample_at(stream, k), nibble) {
+    if is_start(sample_at(stream, k), start_of(part, kind)) {
         if clocks <= to - k {
-            if lines_at(stream, k + 1) == straps {
-                if lines_at(stream, k + 9) == 0 {
-                    return are_idle(stream, k + 1, clocks - 1);
-                }
-                return false;
+            if head_fits(stream, part, straps, kind, k) {
+                return are_idle(stream, k + 1, clocks - 1);
             }
             return false;
         }

@@ -1,2 +1,3 @@
 pub mod Rule
 pub mod Lookup
+pub mod Straps

@@ -1,61 +1,103 @@
--- The rule of the registers in closed form: the lock of each block at its address, the other three at theirs, and none
--- at an address that no entry has. The sixteen locks are one computed test. Assumes nothing.
+-- A part's registers by the list of their offsets: where each stands, none where no entry does, and what a lookup that finds a
+-- lock knows of it. Of both parts; the locks are one computed test. Assumes nothing.
 use mathlib.Core.Path.{_≡_, _∙_, ap, sym, refl}
 use mathlib.Core.Bool.{Bool, true, false, cond, _&&_}
 use mathlib.Core.List.{List, [], _∷_}
-use Prim.Native.Nat.{ℕ, suc, _<_, zero-le, suc-le-suc}
+use Prim.Native.Nat.{ℕ, suc, _+_, _-_, _*_, _<_, zero-le, suc-le-suc}
+use native.Mathlib.Omega.{arith}
 use lib.ListN.{length, getD}
 use lib.Dec.{eqb, ltb}
-use borrow.Author.Tests.{ne-eqb, ltb-true}
-use Rattle.part.specs.declared.Entry.{Entry}
+use borrow.Author.Tests.{eqb-true, ne-eqb, ltb-true, ltb-false, le-ltb}
+use Rattle.record.specs.Record.{isLpc}
 use Rattle.part.specs.declared.Register.{Register}
 use Rattle.part.specs.declared.Register.the-variants.{Lock, Inputs, MakerCode, DeviceCode, Missing}
-use Rattle.part.specs.Registers.{lockAddress, registers, firstAt, registerAt}
-use Rattle.basics.proofs.Rules.{and-left, and-right}
+use Rattle.part.specs.Registers.{Entry, registerBase, lockOffset, registers, firstAt, registerAt}
+use Rattle.basics.proofs.Rules.{Answer, yes, no, ask, clash, and-left, and-right, and-both}
 use Rattle.basics.proofs.Table.{at}
 
-pub lock-at : (b : ℕ) → b < 16 → registerAt (lockAddress b) ≡ Lock b
+pub none-of : (es : List Entry) (o : ℕ) (d : Entry)
+    → ((k : ℕ) → k < length es → getD es k d .at ≡ o → ⊥)
+    → firstAt es o ≡ Missing
+none-of [] o d h = refl
+none-of (e ∷ es) o d h =
+    rw (ne-eqb (e .at) o (h 0 (suc-le-suc zero-le))) (none-of es o d (λ k l. h (suc k) (suc-le-suc l)))
+
+-- what is tested for holds of every entry, and so of what a lookup finds
+module _ (test : ℕ → Register → Bool) (lacks : (o : ℕ) → test o Missing ≡ true) where
+  abbrev everyOne : List Entry → Bool
+  everyOne [] = true
+  everyOne (e ∷ es) = test (e .at) (e .what) && everyOne es
+
+  chosen : (o : ℕ) (t : Bool) (x y : Register) → (t ≡ true → test o x ≡ true) → test o y ≡ true → test o (cond t x y) ≡ true
+  chosen o true x y f g = f refl
+  chosen o false x y f g = g
+
+  found : (es : List Entry) (o : ℕ) → everyOne es ≡ true → test o (firstAt es o) ≡ true
+  found [] o h = lacks o
+  found (e ∷ es) o h =
+      chosen o (eqb (e .at) o) (e .what) (firstAt es o)
+      (λ k.
+      ap (λ (i : ℕ). test i (e .what)) (sym (eqb-true (e .at) o k))
+      ∙ and-left (test (e .at) (e .what)) (everyOne es) h)
+      (found es o (and-right (test (e .at) (e .what)) (everyOne es) h))
+
+-- a lock that a lookup finds is that of one of the sixteen blocks, and stands where that block's lock does
+abbrev isItsLock : ℕ → Register → Bool
+isItsLock o (Lock b) = ltb b 16 && eqb o (lockOffset b)
+isItsLock o Inputs = true
+isItsLock o MakerCode = true
+isItsLock o DeviceCode = true
+isItsLock o Missing = true
+
+abbrev isMissing : Register → Bool
+isMissing (Lock b) = false
+isMissing Inputs = false
+isMissing MakerCode = false
+isMissing DeviceCode = false
+isMissing Missing = true
+
+
+pub its-lock : (lpc : Bool) (o : ℕ) → isItsLock o (firstAt (registers lpc) o) ≡ true
+its-lock true o = found isItsLock (λ i. refl) (registers true) o refl
+its-lock false o = found isItsLock (λ i. refl) (registers false) o refl
+
+-- where each stands: the lock of each block, and a part's own
+pub lock-found : (lpc : Bool) (b : ℕ) → b < 16 → firstAt (registers lpc) (lockOffset b) ≡ Lock b
+lock-found lpc b h =
+    sym (at (λ (k : ℕ). firstAt (registers lpc) (lockOffset k)) 16 b Missing h) ∙ at (λ (k : ℕ). Lock k) 16 b Missing h
+
+pub inputs-found : (lpc : Bool) → firstAt (registers lpc) 0xC0100 ≡ Inputs
+inputs-found lpc = refl
+
+pub codes-found : (firstAt (registers false) 0xC0000 ≡ MakerCode) × (firstAt (registers false) 0xC0001 ≡ DeviceCode)
+codes-found = (refl, refl)
+
+-- what is found at an address: the block of a lock, and that it stands at its own address
+module _ (part straps address b : ℕ) where
+  abbrev base : ℕ
+  base = registerBase part straps
+
+  lock-in : registerAt part straps address ≡ Lock b → (ltb address base ≡ false) × (isItsLock (address - base) (Lock b) ≡ true)
+  unfolding registerAt
+  lock-in e = pick (ask (ltb address base))
+    where
+      pick : Answer (ltb address base) → (ltb address base ≡ false) × (isItsLock (address - base) (Lock b) ≡ true)
+      pick (yes l) = clash (sym (ap isMissing (rw l at e)))
+      pick (no l) = (l, ap (isItsLock (address - base)) (sym (rw l at e)) ∙ its-lock (isLpc part) (address - base))
+
+  pub lock-below : registerAt part straps address ≡ Lock b → b < 16
+  lock-below e = ltb-true b 16 (and-left (ltb b 16) _ (lock-in e .1))
+
+  pub lock-stands : registerAt part straps address ≡ Lock b → address ≡ base + lockOffset b
+  lock-stands e =
+      let p = lock-in e in
+      let l = ltb-false address base (p .0) in
+      let o = eqb-true (address - base) (lockOffset b) (and-right (ltb b 16) _ (p .1)) in
+      omega arith
+
+pub lock-at : (part straps b : ℕ) → b < 16 → registerAt part straps (registerBase part straps + lockOffset b) ≡ Lock b
 unfolding registerAt
-lock-at b h = sym (at (λ (k : ℕ). registerAt (lockAddress k)) 16 b Missing h) ∙ at (λ (k : ℕ). Lock k) 16 b Missing h
-
-pub others-at : (registerAt 0xFBC0100 ≡ Inputs) × (registerAt 0xFBC0000 ≡ MakerCode) × (registerAt 0xFBC0001 ≡ DeviceCode)
-unfolding registerAt
-others-at = (refl, refl, refl)
-
-none-of : (es : List Entry) (a : ℕ) (d : Entry)
-    → ((k : ℕ) → k < length es → getD es k d .at ≡ a → ⊥)
-    → firstAt es a ≡ Missing
-none-of [] a d h = refl
-none-of (e ∷ es) a d h =
-    rw (ne-eqb (e .at) a (h 0 (suc-le-suc zero-le))) (none-of es a d (λ k l. h (suc k) (suc-le-suc l)))
-
-pub none-at : (a : ℕ) (d : Entry) → ((k : ℕ) → k < 19 → getD registers k d .at ≡ a → ⊥) → registerAt a ≡ Missing
-unfolding registerAt
-none-at a d h = none-of registers a d h
-
--- a lock that a lookup finds is that of one of the sixteen blocks: a computed test of the table, and one law
-abbrev belowTop : Register → Bool
-belowTop (Lock b) = ltb b 16
-belowTop Inputs = true
-belowTop MakerCode = true
-belowTop DeviceCode = true
-belowTop Missing = true
-
-abbrev allBelowTop : List Entry → Bool
-allBelowTop [] = true
-allBelowTop (e ∷ es) = belowTop (e .what) && allBelowTop es
-
-chosen : (t : Bool) (x y : Register) → belowTop x ≡ true → belowTop y ≡ true → belowTop (cond t x y) ≡ true
-chosen true x y f g = f
-chosen false x y f g = g
-
-found-below : (es : List Entry) (a : ℕ) → allBelowTop es ≡ true → belowTop (firstAt es a) ≡ true
-found-below [] a h = refl
-found-below (e ∷ es) a h =
-    chosen (eqb (e .at) a) (e .what) (firstAt es a)
-    (and-left (belowTop (e .what)) (allBelowTop es) h)
-    (found-below es a (and-right (belowTop (e .what)) (allBelowTop es) h))
-
-pub lock-below : (a b : ℕ) → registerAt a ≡ Lock b → b < 16
-unfolding registerAt
-lock-below a b e = ltb-true b 16 (ap belowTop (sym e) ∙ found-below registers a refl)
+lock-at part straps b h =
+    let base = registerBase part straps in
+    let o : base + lockOffset b - base ≡ lockOffset b = omega arith in
+    rw (le-ltb (base + lockOffset b) base (omega arith), o) (lock-found (isLpc part) b h)

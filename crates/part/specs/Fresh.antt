@@ -10,6 +10,6 @@ use Rattle.record.specs.Record.{controller, device, idle, absent}
 abbrev pub resting : ℕ → Controller
 resting marks = controller 0 0 0 marks absent absent
 
--- every lock register at 01h, no frame, no operation, no marks
-unfoldable pub freshOf : ℕ → Times → Device
-freshOf straps ts = device straps (replicate 16 1) ts idle (resting 0)
+-- of a part and its straps: every lock register at 01h, no frame, no operation, no marks
+unfoldable pub freshOf : ℕ → ℕ → Times → Device
+freshOf part straps ts = device part straps (replicate 16 1) ts idle (resting 0)

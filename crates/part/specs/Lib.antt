@@ -1,3 +1,4 @@
 pub mod Fresh
+pub mod Parts
 pub mod Registers
 pub mod Rule

@@ -15,10 +15,10 @@ ghost use Rattle.sheet.specs.Sheet.{ReadsNumbers, WritesSheet};
 ghost use Rattle.view.specs.Shown.{ShowsPiece};
 
 #[no_mangle]
-pub extern "C" fn pod_power_up(straps: u32, program: u32, slice: u32, pause: u32) -> Powered
-    ensures { λ r. ⌜ PowersUp straps program slice pause r ⌝ }
+pub extern "C" fn pod_power_up(part: u32, straps: u32, program: u32, slice: u32, pause: u32) -> Powered
+    ensures { λ r. ⌜ PowersUp part straps program slice pause r ⌝ }
 {
-    power::power_up(straps, program, slice, pause)
+    power::power_up(part, straps, program, slice, pause)
 }
 
 #[no_mangle]
@@ -47,15 +47,16 @@ pub extern "C" fn pod_run(
     image: &mut [u8],
     stream: &[u8],
     answers: &mut [u8],
+    part: u32,
     straps: u32,
     program: u32,
     slice: u32,
     pause: u32,
 ) -> Report
-    ensures { λ r. ⌜ Runs (now (image .entry)) (now (stream .entry)) (now (answers .entry)) straps program slice pause r
+    ensures { λ r. ⌜ Runs (now (image .entry)) (now (stream .entry)) (now (answers .entry)) part straps program slice pause r
         (now (image .exit)) (now (answers .exit)) ⌝ }
 {
-    stream::run(image, stream, answers, straps, program, slice, pause)
+    stream::run(image, stream, answers, part, straps, program, slice, pause)
 }
 
 #[no_mangle]

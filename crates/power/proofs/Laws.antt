@@ -5,8 +5,8 @@ use mathlib.Core.Bool.{true, false}
 use mathlib.Core.Logic.{_⊎_, inl, inr}
 use Prim.Native.Nat.{ℕ, _<_, _≤_}
 use native.Mathlib.Omega.{arith}
-use borrow.Author.Tests.{lt-ltb, le-ltb, ltb-true, ltb-false}
-use lib.Dec.{ltb}
+use borrow.Author.Tests.{le-leb, lt-leb, leb-true, leb-false}
+use lib.Dec.{leb}
 use Rattle.basics.specs.All.{all}
 use Rattle.basics.proofs.All.{holds, also, none}
 use Rattle.basics.proofs.Rules.{ask, yes, no}
@@ -14,64 +14,66 @@ use Rattle.units.specs.declared.Times.{Times}
 use Rattle.units.specs.Units.{times, timesFit, inRange}
 use Rattle.record.specs.declared.Device.{Device}
 use Rattle.part.specs.Fresh.{freshOf}
+use Rattle.part.specs.Parts.{strapCount}
 use Rattle.soundness.specs.Sound.{soundOf}
 use Rattle.soundness.proofs.Fresh.{fresh-sound}
 use Rattle.power.specs.Power.{powered, powerRefused, poweredUp, withTimes, timesSet}
 
 -- the device that a refusal gives is sound
 pub power-refused-sound : (number : ℕ) → soundOf (powerRefused number .device) ≡ true
-unfolding powerRefused timesFit inRange all
-power-refused-sound number = fresh-sound 0 (times 10 3906 30) (omega arith) refl
+unfolding powerRefused strapCount timesFit inRange all
+power-refused-sound number = fresh-sound 0 0 (times 10 3906 30) (omega arith) refl
 
-module _ (straps program slice pause : ℕ) where
-  -- 3 wherever the straps are above 15, 4 only where they are not
-  pub power-3 : 15 < straps → poweredUp straps program slice pause ≡ powerRefused 3
+module _ (part straps program slice pause : ℕ) where
+  -- 3 wherever the part does not allow the straps, 4 only where it does
+  pub power-3 : strapCount part ≤ straps → poweredUp part straps program slice pause ≡ powerRefused 3
   unfolding poweredUp
-  power-3 h = rw (lt-ltb 15 straps h)
+  power-3 h = rw (le-leb (strapCount part) straps h)
 
-  module _ (h : straps ≤ 15) where
-    pub power-4 : timesFit (times program slice pause) ≡ false → poweredUp straps program slice pause ≡ powerRefused 4
+  module _ (h : straps < strapCount part) where
+    pub power-4 : timesFit (times program slice pause) ≡ false → poweredUp part straps program slice pause ≡ powerRefused 4
     unfolding poweredUp
-    power-4 f = rw (le-ltb 15 straps h, f)
+    power-4 f = rw (lt-leb (strapCount part) straps h, f)
 
     pub power-0 : timesFit (times program slice pause) ≡ true
-        → poweredUp straps program slice pause ≡ powered 0 (freshOf straps (times program slice pause))
+        → poweredUp part straps program slice pause ≡ powered 0 (freshOf part straps (times program slice pause))
     unfolding poweredUp
-    power-0 f = rw (le-ltb 15 straps h, f)
+    power-0 f = rw (lt-leb (strapCount part) straps h, f)
 
-  pub power-numbers : (poweredUp straps program slice pause .number ≡ 0)
-      ⊎ ((poweredUp straps program slice pause .number ≡ 3) ⊎ (poweredUp straps program slice pause .number ≡ 4))
+  pub power-numbers : (poweredUp part straps program slice pause .number ≡ 0)
+      ⊎ ((poweredUp part straps program slice pause .number ≡ 3) ⊎ (poweredUp part straps program slice pause .number ≡ 4))
   unfolding powerRefused
   power-numbers =
-      elim (ask (ltb 15 straps)) [
-        | yes e ↦ inr (inl (rw (power-3 (ltb-true 15 straps e))))
+      elim (ask (leb (strapCount part) straps)) [
+        | yes e ↦ inr (inl (rw (power-3 (leb-true (strapCount part) straps e))))
         | no e ↦ elim (ask (timesFit (times program slice pause))) [
-          | yes f ↦ inl (rw (power-0 (ltb-false 15 straps e) f))
-          | no f ↦ inr (inr (rw (power-4 (ltb-false 15 straps e) f)))
+          | yes f ↦ inl (rw (power-0 (leb-false (strapCount part) straps e) f))
+          | no f ↦ inr (inr (rw (power-4 (leb-false (strapCount part) straps e) f)))
         ]
       ]
 
   -- a powered-up device is sound, refused or not
-  pub powered-sound : soundOf (poweredUp straps program slice pause .device) ≡ true
+  pub powered-sound : soundOf (poweredUp part straps program slice pause .device) ≡ true
   powered-sound =
-      elim (ask (ltb 15 straps)) [
-        | yes e ↦ rw (power-3 (ltb-true 15 straps e)) (power-refused-sound 3)
-        | no e ↦ let h : straps ≤ 15 = ltb-false 15 straps e in
+      elim (ask (leb (strapCount part) straps)) [
+        | yes e ↦ rw (power-3 (leb-true (strapCount part) straps e)) (power-refused-sound 3)
+        | no e ↦ let h : straps < strapCount part = leb-false (strapCount part) straps e in
             elim (ask (timesFit (times program slice pause))) [
-              | yes f ↦ rw (power-0 h f) (fresh-sound straps (times program slice pause) (omega arith) f)
+              | yes f ↦ rw (power-0 h f) (fresh-sound part straps (times program slice pause) h f)
               | no f ↦ rw (power-4 h f) (power-refused-sound 4)
             ]
       ]
 
 -- two devices that differ in their times at most
 pub record Kept (d e : Device) : Type 0 where
+  pub part : e .part ≡ d .part
   pub straps : e .straps ≡ d .straps
   pub locks : e .locks ≡ d .locks
   pub frame : e .frame ≡ d .frame
   pub controller : e .controller ≡ d .controller
 
 kept : (d : Device) → Kept d d
-kept d = record { straps = refl; locks = refl; frame = refl; controller = refl }
+kept d = record { part = refl; straps = refl; locks = refl; frame = refl; controller = refl }
 
 module _ (d : Device) (program slice pause : ℕ) where
   -- 1 wherever the device is not sound, 4 only where it is; both return it as it was handed in
@@ -118,7 +120,7 @@ module _ (d : Device) (program slice pause : ℕ) where
   set-keeps =
       elim (ask (soundOf d)) [
         | yes e ↦ elim (ask (timesFit (times program slice pause))) [
-          | yes f ↦ rw (set-0 e f) (record { straps = refl; locks = refl; frame = refl; controller = refl })
+          | yes f ↦ rw (set-0 e f) (record { part = refl; straps = refl; locks = refl; frame = refl; controller = refl })
           | no f ↦ rw (set-4 e f) (kept d)
         ]
         | no e ↦ rw (set-1 e) (kept d)

@@ -1,5 +1,7 @@
 // Power up and set times, and what a host may ask of a device.
-use part::Part;
+use part::Fwh;
+use part::fresh;
+use part::strap_count;
 use record::Device;
 use soundness::sound;
 use status::status;
@@ -16,26 +18,26 @@ pub struct Powered {
     pub device: Device,
 }
 
-// A refusal, with the device of straps 0 and times 10, 3,906, 30.
+// A refusal, with the FWH device of straps 0 and times 10, 3,906, 30.
 fn refused(number: u32) -> Powered
     ensures { λ r. ⌜ r ≡ powerRefused number ⌝ }
 {
     Powered {
         number,
-        device: Part::fresh(0, times_of(10, 3906, 30)),
+        device: Fwh::fresh(0, times_of(10, 3906, 30)),
     }
 }
 
-pub fn power_up(straps: u32, program: u32, slice: u32, pause: u32) -> Powered
-    ensures { λ r. ⌜ PowersUp straps program slice pause r ⌝ }
+pub fn power_up(part: u32, straps: u32, program: u32, slice: u32, pause: u32) -> Powered
+    ensures { λ r. ⌜ PowersUp part straps program slice pause r ⌝ }
 {
-    if 15 < straps {
+    if strap_count(part) <= straps {
         return refused(3);
     }
     if are_times(program, slice, pause) {
         return Powered {
             number: 0,
-            device: Part::fresh(straps as u8, times_of(program, slice, pause)),
+            device: fresh(part as u8, straps as u8, times_of(program, slice, pause)),
         };
     }
     refused(4)

@@ -12,7 +12,12 @@ use Rattle.record.specs.declared.Operation.{Operation}
 use Rattle.record.specs.declared.Controller.{Controller}
 use Rattle.record.specs.declared.Device.{Device}
 
--- a frame's kind: 0 none, 1 read, 2 write. Its clock is the last one done, numbered as document 01 numbers them
+-- a part: 0 the FWH part, 1 its LPC sister
+abbrev pub isLpc : ℕ → Bool
+isLpc part = eqb part 1
+
+-- a frame's kind: 0 none, 1 read, 2 write, 3 begun, its direction not known yet. Its clock is the last one done, numbered as
+-- document 01 numbers them
 abbrev pub frame : ℕ → ℕ → ℕ → ℕ → Frame
 frame kind clock byte address = record { kind = kind; clock = clock; byte = byte; address = address }
 
@@ -27,6 +32,9 @@ isRead f = eqb (f .kind) 1
 
 abbrev pub isWrite : Frame → Bool
 isWrite f = eqb (f .kind) 2
+
+abbrev pub isBegun : Frame → Bool
+isBegun f = eqb (f .kind) 3
 
 -- an operation's kind: 0 none, 1 program, 2 erase; its state: 0 running, 1 pausing, 2 suspended
 abbrev pub isAbsent : Operation → Bool
@@ -101,5 +109,6 @@ abbrev pub controller : ℕ → ℕ → ℕ → ℕ → Operation → Operation 
 controller mode errors setup marks outer inner =
     record { mode = mode; errors = errors; setup = setup; marks = marks; outer = outer; inner = inner }
 
-abbrev pub device : ℕ → List ℕ → Times → Frame → Controller → Device
-device straps locks ts f c = record { straps = straps; locks = locks; times = ts; frame = f; controller = c }
+abbrev pub device : ℕ → ℕ → List ℕ → Times → Frame → Controller → Device
+device part straps locks ts f c =
+    record { straps = straps; locks = locks; part = part; times = ts; frame = f; controller = c }

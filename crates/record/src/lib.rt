@@ -47,6 +47,7 @@ pub struct Controller {
 pub struct Device {
     pub straps: u8,
     pub locks: [u8; 16],
+    pub part: u8,
     pub times: Times,
     pub frame: Frame,
     pub controller: Controller,

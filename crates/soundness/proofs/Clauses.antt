@@ -7,6 +7,7 @@ use Rattle.basics.proofs.All.{holds, also, none}
 use Rattle.units.specs.Units.{timesFit}
 use Rattle.record.specs.declared.Controller.{Controller}
 use Rattle.record.specs.declared.Device.{Device}
+use Rattle.part.specs.Parts.{strapCount}
 use Rattle.status.specs.Status.{conditionOf}
 use Rattle.soundness.specs.Sound.{allBelow, frameFits, outerFits, innerFits, setupKinds, controllerFits, soundOf}
 
@@ -26,10 +27,10 @@ unfolding controllerFits
 made c k = also _ (k .mode) (also _ (k .errors) (also _ (k .outer) (also _ (k .inner) (also _ (k .setup) none))))
 
 pub record Parts (d : Device) : Type 0 where
-  pub straps : ltb (d .straps) 16 ≡ true
+  pub straps : ltb (d .straps) (strapCount (d .part)) ≡ true
   pub locks : allBelow 8 (d .locks) ≡ true
   pub times : timesFit (d .times) ≡ true
-  pub frame : frameFits (d .frame) ≡ true
+  pub frame : frameFits (d .part) (d .frame) ≡ true
   pub controller : controllerFits (d .controller) ≡ true
 
 pub parts : (d : Device) → soundOf d ≡ true → Parts d

@@ -13,7 +13,8 @@ use Rattle.record.specs.declared.Frame.{Frame}
 use Rattle.record.specs.declared.Operation.{Operation}
 use Rattle.record.specs.declared.Controller.{Controller}
 use Rattle.record.specs.declared.Device.{Device}
-use Rattle.record.specs.Record.{isIdle, isRead, isWrite, isAbsent, isProgram, isErase, isRunning, isPausing, isSuspended, blockOf}
+use Rattle.record.specs.Record.{isLpc, isIdle, isRead, isWrite, isBegun, isAbsent, isProgram, isErase, isRunning, isPausing, isSuspended, blockOf}
+use Rattle.part.specs.Parts.{strapCount}
 use Rattle.status.specs.declared.Condition.{Condition}
 use Rattle.status.specs.declared.Condition.the-variants.{Ready, Running, Pausing, ProgramSuspended, EraseSuspended, ProgramInside}
 use Rattle.status.specs.Status.{conditionOf}
@@ -23,13 +24,29 @@ abbrev pub allBelow : ℕ → List ℕ → Bool
 allBelow n [] = true
 allBelow n (x ∷ xs) = ltb x n && allBelow n xs
 
--- the frame stage is one of those of "Frames" (a read's last clock done is 1 to 18, a write's 1 to 16), its address
--- within 28 bits
-unfoldable pub frameFits : Frame → Bool
-frameFits f =
+-- the clock on which a frame's direction is known: on FWH the first, on LPC the second
+unfoldable pub knownFrom : ℕ → ℕ
+knownFrom part = cond (isLpc part) 2 1
+
+-- an address has 28 bits, on LPC 32
+unfoldable pub addressLimit : ℕ → ℕ
+addressLimit part = cond (isLpc part) 0x100000000 0x10000000
+
+-- a frame of known direction, with its last clock but one
+unfoldable pub stageFits : ℕ → Frame → ℕ → Bool
+stageFits part f last =
+    all (leb (knownFrom part) (f .clock) ∷ leb (f .clock) last ∷ ltb (f .address) (addressLimit part) ∷ [])
+
+-- a frame begun, at clock 1: on LPC alone
+unfoldable pub begunFits : ℕ → Frame → Bool
+begunFits part f = all (isBegun f ∷ isLpc part ∷ eqb (f .clock) 1 ∷ ltb (f .address) (addressLimit part) ∷ [])
+
+-- the frame stage is one of those of "Frames": the last clock done of a read is at most 18, of a write 16
+unfoldable pub frameFits : ℕ → Frame → Bool
+frameFits part f =
     cond (isIdle f) true
-    (cond (isRead f) (all (leb 1 (f .clock) ∷ leb (f .clock) 18 ∷ ltb (f .address) 0x10000000 ∷ []))
-    (all (isWrite f ∷ leb 1 (f .clock) ∷ leb (f .clock) 16 ∷ ltb (f .address) 0x10000000 ∷ [])))
+    (cond (isRead f) (stageFits part f 18)
+    (cond (isWrite f) (stageFits part f 16) (begunFits part f)))
 
 -- clocks are between 1 and the full number of a time
 unfoldable pub counts : Clocks → Micros → Bool
@@ -93,13 +110,14 @@ controllerFits c =
     ∷ ltb (c .setup) (setupKinds (conditionOf c))
     ∷ [])
 
--- straps are 0 to 15, lock registers 0 to 7, times in range
+-- straps are those that the part allows (0 to 15, on LPC 0 to 3; another part allows none), lock registers 0 to 7, times in
+-- range
 unfoldable pub soundOf : Device → Bool
 soundOf d =
     all
-    (ltb (d .straps) 16
+    (ltb (d .straps) (strapCount (d .part))
     ∷ allBelow 8 (d .locks)
     ∷ timesFit (d .times)
-    ∷ frameFits (d .frame)
+    ∷ frameFits (d .part) (d .frame)
     ∷ controllerFits (d .controller)
     ∷ [])

@@ -2,6 +2,7 @@
 use basics::both;
 use part::Part;
 use part::block_of;
+use part::strap_count;
 use record::Controller;
 use record::Device;
 use record::Frame;
@@ -13,7 +14,7 @@ use units::Micros;
 use units::in_clocks;
 use units::times_fit;
 ghost use mathlib.Core.Path.{_≡_};
-ghost use Rattle.soundness.specs.Sound.{allBelow, counts, leftFits, stateFits, operationFits, outerFits, apart, inside, innerFits, setupKinds, frameFits, controllerFits, soundOf};
+ghost use Rattle.soundness.specs.Sound.{allBelow, counts, leftFits, stateFits, operationFits, outerFits, apart, inside, innerFits, setupKinds, knownFrom, addressLimit, stageFits, begunFits, frameFits, controllerFits, soundOf};
 
 // Whether each of the sixteen numbers is below n.
 fn all_below(n: u8, xs: [u8; 16]) -> bool
@@ -141,19 +142,66 @@ fn setup_kinds(c: Condition) -> u8
     }
 }
 
-fn frame_fits(f: Frame) -> bool
-    ensures { λ r. ⌜ r ≡ frameFits f ⌝ }
+// The clock on which a frame's direction is known.
+fn known_from(part: u8) -> u8
+    ensures { λ r. ⌜ r ≡ knownFrom part ⌝ }
+{
+    if part == 1 {
+        return 2;
+    }
+    1
+}
+
+// The first number that has too many bits for an address.
+fn address_limit(part: u8) -> u64
+    ensures { λ r. ⌜ r ≡ addressLimit part ⌝ }
+{
+    if part == 1 {
+        return 0x100000000;
+    }
+    0x10000000
+}
+
+fn stage_fits(part: u8, f: Frame, last: u8) -> bool
+    ensures { λ r. ⌜ r ≡ stageFits part f last ⌝ }
+{
+    both(
+        known_from(part) <= f.clock,
+        both(
+            f.clock <= last,
+            (f.address as u64) < address_limit(part),
+        ),
+    )
+}
+
+fn begun_fits(part: u8, f: Frame) -> bool
+    ensures { λ r. ⌜ r ≡ begunFits part f ⌝ }
+{
+    both(
+        f.kind == 3,
+        both(
+            part == 1,
+            both(
+                f.clock == 1,
+                (f.address as u64) < address_limit(part),
+            ),
+        ),
+    )
+}
+
+fn frame_fits(part: u8, f: Frame) -> bool
+    ensures { λ r. ⌜ r ≡ frameFits part f ⌝ }
 {
     if f.kind == 0 {
         return true;
     }
     if f.kind == 1 {
-        return both(1 <= f.clock, both(f.clock <= 18, f.address < 0x10000000));
+        return stage_fits(part, f, 18);
     }
-    both(
-        f.kind == 2,
-        both(1 <= f.clock, both(f.clock <= 16, f.address < 0x10000000)),
-    )
+    if f.kind == 2 {
+        return stage_fits(part, f, 16);
+    }
+    begun_fits(part, f)
 }
 
 fn controller_fits(c: Controller) -> bool
@@ -185,12 +233,12 @@ pub fn sound(d: Device) -> bool
     let frame = d.frame;
     let controller = d.controller;
     both(
-        d.straps < 16,
+        (d.straps as u32) < strap_count(d.part as u32),
         both(
             all_below(8, locks),
             both(
                 times_fit(times),
-                both(frame_fits(frame), controller_fits(controller)),
+                both(frame_fits(d.part, frame), controller_fits(controller)),
             ),
         ),
     )

@@ -3,15 +3,16 @@
 use mathlib.Core.Path.{_≡_, _∙_, sym, refl}
 use mathlib.Core.Bool.{true}
 use mathlib.Core.List.{List, [], _∷_}
-use Prim.Native.Nat.{ℕ, _/_, _≤_}
+use Prim.Native.Nat.{ℕ, _/_, _<_}
 use native.Mathlib.Omega.{arith}
 use lib.Dec.{eqb}
 use lib.ListN.{length, drop}
 use lib.Seq.{drop-at}
-use borrow.Author.Tests.{eq-eqb, le-ltb}
+use borrow.Author.Tests.{eq-eqb, le-ltb, lt-leb}
 use Rattle.basics.proofs.Rules.{ask, yes, no}
 use Rattle.units.specs.Units.{times, timesFit}
 use Rattle.part.specs.Fresh.{freshOf}
+use Rattle.part.specs.Parts.{strapCount}
 use Rattle.status.specs.Status.{conditionOf, statusOf}
 use Rattle.clock.specs.Fold.{World, onward, answersTo}
 use Rattle.record.specs.Sample.{samples}
@@ -24,43 +25,43 @@ answers-length : (ss : List ℕ) (w : World) → length (answersTo ss w) ≡ len
 answers-length [] w = refl
 answers-length (s ∷ ss) w = let e = answers-length ss (onward w s) in omega arith
 
-module _ (image stream answers : List ℕ) (straps program slice pause : ℕ) where
-  pub refused : (runNumber image stream answers straps program slice pause ≡ 0 → ⊥)
-      → ranOf image stream answers straps program slice pause
-      ≡ ran (report (runNumber image stream answers straps program slice pause) 0 0 0) image answers
-  refused n = sym (refuses image stream answers straps program slice pause refl n)
+module _ (image stream answers : List ℕ) (part straps program slice pause : ℕ) where
+  pub refused : (runNumber image stream answers part straps program slice pause ≡ 0 → ⊥)
+      → ranOf image stream answers part straps program slice pause
+      ≡ ran (report (runNumber image stream answers part straps program slice pause) 0 0 0) image answers
+  refused n = sym (refuses image stream answers part straps program slice pause refl n)
 
-  module _ (n : runNumber image stream answers straps program slice pause ≡ 0) where
-    pub done : ranOf image stream answers straps program slice pause
-        ≡ reported (samples stream) (freshWorld image straps program slice pause) answers
+  module _ (n : runNumber image stream answers part straps program slice pause ≡ 0) where
+    pub done : ranOf image stream answers part straps program slice pause
+        ≡ reported (samples stream) (freshWorld image part straps program slice pause) answers
     unfolding ranOf
     done = rw n
 
-    pub samples-done : ranOf image stream answers straps program slice pause .report .samples ≡ length stream / 2
+    pub samples-done : ranOf image stream answers part straps program slice pause .report .samples ≡ length stream / 2
     samples-done = rw done (samples-length stream)
 
   -- refused or not
-  pub past-samples : drop (length stream / 2) (ranOf image stream answers straps program slice pause .answers)
+  pub past-samples : drop (length stream / 2) (ranOf image stream answers part straps program slice pause .answers)
       ≡ drop (length stream / 2) answers
   unfolding ranOf
   past-samples =
-      elim (ask (eqb (runNumber image stream answers straps program slice pause) 0)) [
+      elim (ask (eqb (runNumber image stream answers part straps program slice pause) 0)) [
         | yes e ↦
             rw (e, samples-length stream)
             (drop-at
-            (answersTo (samples stream) (freshWorld image straps program slice pause))
+            (answersTo (samples stream) (freshWorld image part straps program slice pause))
             (drop (length stream / 2) answers)
             (length stream / 2)
-            (answers-length (samples stream) (freshWorld image straps program slice pause) ∙ samples-length stream))
+            (answers-length (samples stream) (freshWorld image part straps program slice pause) ∙ samples-length stream))
         | no e ↦ rw e
       ]
 
-pub empty-done : (image answers : List ℕ) (straps program slice pause : ℕ)
+pub empty-done : (image answers : List ℕ) (part straps program slice pause : ℕ)
     → length image ≡ 1048576
-    → straps ≤ 15
+    → straps < strapCount part
     → timesFit (times program slice pause) ≡ true
-    → ranOf image [] answers straps program slice pause ≡ ran (report 0 0 0x80 0) image answers
+    → ranOf image [] answers part straps program slice pause ≡ ran (report 0 0 0x80 0) image answers
 unfolding freshOf statusOf conditionOf runNumber misshapen
-empty-done image answers straps program slice pause i h t =
-    done image [] answers straps program slice pause
-    (rw (eq-eqb (length image) 1048576 i, le-ltb 15 straps h, t, le-ltb (length answers) 0 (omega arith)))
+empty-done image answers part straps program slice pause i h t =
+    done image [] answers part straps program slice pause
+    (rw (eq-eqb (length image) 1048576 i, lt-leb (strapCount part) straps h, t, le-ltb (length answers) 0 (omega arith)))

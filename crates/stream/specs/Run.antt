@@ -3,11 +3,12 @@ use Prim.Native.Nat.{ℕ, _/_, _%_}
 use mathlib.Core.Path.{_≡_}
 use mathlib.Core.Bool.{Bool, true, false, cond}
 use mathlib.Core.List.{List, [], _∷_, _++_}
-use lib.Dec.{eqb, ltb}
+use lib.Dec.{eqb, ltb, leb}
 use lib.ListN.{length, drop}
 use Rattle.units.specs.Units.{times, timesFit}
 use Rattle.record.specs.Sample.{voltage, samples}
 use Rattle.part.specs.Fresh.{freshOf}
+use Rattle.part.specs.Parts.{strapCount}
 use Rattle.status.specs.Status.{statusOf}
 use Rattle.clock.specs.Fold.{World, world, through, answersTo}
 use Rattle.stream.specs.declared.Report.{Report}
@@ -22,10 +23,10 @@ unfoldable pub misshapen : List ℕ → Bool
 misshapen stream = cond (ltb 131072 (length stream)) true (eqb (length stream % 2) 1)
 
 -- which refusal a run meets, 0 for none: 2, 3, 4, 5, 6, 7, lowest first
-unfoldable pub runNumber : List ℕ → List ℕ → List ℕ → ℕ → ℕ → ℕ → ℕ → ℕ
-runNumber image stream answers straps program slice pause =
+unfoldable pub runNumber : List ℕ → List ℕ → List ℕ → ℕ → ℕ → ℕ → ℕ → ℕ → ℕ
+runNumber image stream answers part straps program slice pause =
     cond (eqb (length image) 1048576)
-    (cond (ltb 15 straps) 3
+    (cond (leb (strapCount part) straps) 3
     (cond (timesFit (times program slice pause))
     (cond (misshapen stream) 5
     (cond (ltb (length answers) (length stream / 2)) 6
@@ -34,8 +35,8 @@ runNumber image stream answers straps program slice pause =
     2
 
 -- the device fresh, with the image as it is lent
-abbrev pub freshWorld : List ℕ → ℕ → ℕ → ℕ → ℕ → World
-freshWorld image straps program slice pause = world (freshOf straps (times program slice pause)) image
+abbrev pub freshWorld : List ℕ → ℕ → ℕ → ℕ → ℕ → ℕ → World
+freshWorld image part straps program slice pause = world (freshOf part straps (times program slice pause)) image
 
 -- what a run gives: samples done, the status register and the marks; the image; the answers, with the bytes past the
 -- last sample unchanged
@@ -58,13 +59,13 @@ reported ss w answers =
     (through ss w .image)
     (answersTo ss w ++ drop (length ss) answers)
 
-unfoldable pub ranOf : List ℕ → List ℕ → List ℕ → ℕ → ℕ → ℕ → ℕ → Ran
-ranOf image stream answers straps program slice pause =
-    cond (eqb (runNumber image stream answers straps program slice pause) 0)
-    (reported (samples stream) (freshWorld image straps program slice pause) answers)
-    (ran (report (runNumber image stream answers straps program slice pause) 0 0 0) image answers)
+unfoldable pub ranOf : List ℕ → List ℕ → List ℕ → ℕ → ℕ → ℕ → ℕ → ℕ → Ran
+ranOf image stream answers part straps program slice pause =
+    cond (eqb (runNumber image stream answers part straps program slice pause) 0)
+    (reported (samples stream) (freshWorld image part straps program slice pause) answers)
+    (ran (report (runNumber image stream answers part straps program slice pause) 0 0 0) image answers)
 
--- what a run gives for an image, a stream, an answer buffer, straps and three times: the report, and both buffers after
-abbrev pub Runs : List ℕ → List ℕ → List ℕ → ℕ → ℕ → ℕ → ℕ → Report → List ℕ → List ℕ → Type 0
-Runs image stream answers straps program slice pause r after answersAfter =
-    ran r after answersAfter ≡ ranOf image stream answers straps program slice pause
+-- what a run gives for an image, a stream, an answer buffer, a part, straps and three times: the report, and both buffers after
+abbrev pub Runs : List ℕ → List ℕ → List ℕ → ℕ → ℕ → ℕ → ℕ → ℕ → Report → List ℕ → List ℕ → Type 0
+Runs image stream answers part straps program slice pause r after answersAfter =
+    ran r after answersAfter ≡ ranOf image stream answers part straps program slice pause

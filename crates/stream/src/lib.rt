@@ -2,6 +2,8 @@
 use basics::either;
 use fast_run::run_samples;
 use part::Part;
+use part::fresh;
+use part::strap_count;
 use record::Device;
 use record::sample_at;
 use record::voltage;
@@ -41,15 +43,16 @@ fn run_number(
     image: &[u8],
     stream: &[u8],
     answers: &[u8],
+    part: u32,
     straps: u32,
     program: u32,
     slice: u32,
     pause: u32,
 ) -> u32
-    ensures { λ r. ⌜ r ≡ runNumber (now (image .entry)) (now (stream .entry)) (now (answers .entry)) straps program slice pause ⌝ }
+    ensures { λ r. ⌜ r ≡ runNumber (now (image .entry)) (now (stream .entry)) (now (answers .entry)) part straps program slice pause ⌝ }
 {
     if image.len() == Part::BYTES {
-        if 15 < straps {
+        if strap_count(part) <= straps {
             return 3;
         }
         if are_times(program, slice, pause) {
@@ -77,18 +80,19 @@ pub fn run(
     image: &mut [u8],
     stream: &[u8],
     answers: &mut [u8],
+    part: u32,
     straps: u32,
     program: u32,
     slice: u32,
     pause: u32,
 ) -> Report
-    ensures { λ r. ⌜ Runs (now (image .entry)) (now (stream .entry)) (now (answers .entry)) straps program slice pause r
+    ensures { λ r. ⌜ Runs (now (image .entry)) (now (stream .entry)) (now (answers .entry)) part straps program slice pause r
         (now (image .exit)) (now (answers .exit)) ⌝ }
 {
-    let number = run_number(image, stream, answers, straps, program, slice, pause);
+    let number = run_number(image, stream, answers, part, straps, program, slice, pause);
     if number == 0 {
-        let fresh = Part::fresh(straps as u8, times_of(program, slice, pause));
-        let last = run_samples(fresh, image, stream, answers);
+        let up = fresh(part as u8, straps as u8, times_of(program, slice, pause));
+        let last = run_samples(up, image, stream, answers);
         let c = last.controller;
         return Report {
             number,

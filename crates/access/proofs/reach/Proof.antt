@@ -18,4 +18,4 @@ reach-spec =
     let a = c .before .before .before in
     rw (c .before .write .ensures, c .before .before .lock-of .ensures, a .array-address .ensures, ← a .before .before .before .before .is-array .ensures, a .before .before .before .if1 .taken))
     (λ c κs. search needs)
-    (λ c. search (cases, c .write-lock .ensures, ← c .before .before .is-array .ensures, c .before .if1 .left)))
+    (λ c. rw (c .write-lock .ensures, ← c .before .before .is-array .ensures, c .before .if1 .left)))

@@ -13,7 +13,7 @@ register-value-spec =
     (λ c κs. search needs)
     (λ c. search needs)
     (λ c. search needs)
-    (λ c. lock-below (c .before .before .before .before .args .address) (c .before .b .given .0 .0) (sym (c .before .before .before .look-up .ensures) ∙ c .before .b .given .1))
+    (λ c. lock-below (c .before .before .before .before .args .part) (c .before .before .before .before .args .straps) (c .before .before .before .before .args .address) (c .before .b .given .0 .0) (sym (c .before .before .before .look-up .ensures) ∙ c .before .b .given .1))
     (λ c. search needs)
     (λ c κs. search needs)
     (λ c. search needs)

@@ -1,3 +1,4 @@
+use borrow.Author.Needs.{needs}
 use Rattle.basics.proofs.Rules.{cases}
 use Rattle.access.specs.Read.{signatureOf}
 use Rattle.access.proofs.signature.Statement.{statement}
@@ -9,5 +10,6 @@ signature-spec =
     tie.close
     (tie.spec
     (λ c. search cases)
-    (λ c. search cases)
+    (λ c κs. search needs)
+    (λ c. search (cases, c .device-code .ensures))
     (λ c. search cases))

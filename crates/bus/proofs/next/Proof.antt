@@ -10,6 +10,8 @@ next-spec =
     tie.close
     (tie.spec
     (λ c κs. search needs)
+    (λ c. search (cases, c .head-lpc .ensures))
+    (λ c κs. search needs)
     (λ c. search (cases, c .head .ensures))
     (λ c κs. search needs)
     (λ c. search (cases, c .read-on .ensures))

@@ -12,7 +12,7 @@ returns-2 c =
     let i = t .before .before in
     let z = i .before .before .before .before in (
       omega arith,
-      λ d image e. alone-clock _ _ _ _ _ _ _ _ (omega (arith, z .pre)) (omega (arith, z .pre)) (i .before .stops-before .ensures (i .if1 .left)) (rw (t .before .sample-at .ensures, ← e) at (t .clock-frame .ensures)) (c .before .before .is-silent .ensures (c .before .if2 .taken)) (rw (c .drive .ensures)) (simp length-set),
+      λ d image q e. alone-clock _ _ _ _ _ _ _ _ (omega (arith, z .pre)) (omega (arith, z .pre)) (i .before .stops-before .ensures (i .if1 .left)) (rw (t .before .sample-at .ensures, ← q, ← e) at (t .clock-frame .ensures)) (c .before .before .is-silent .ensures (c .before .if2 .taken)) (rw (c .drive .ensures)) (simp length-set),
     )
 
 pub clock-bus-spec : {M : Type 1} → statement M
@@ -20,7 +20,7 @@ clock-bus-spec =
     tie.close
     (tie.spec
     (λ c κs. search needs)
-    (λ c. (omega arith, λ d image e. alone-none _ _ _ _ _ _))
+    (λ c. (omega arith, λ d image q e. alone-none _ _ _ _ _ _))
     (λ c κs. search needs)
     (λ c κs. search needs)
     (λ c κs. search needs)
@@ -29,4 +29,4 @@ clock-bus-spec =
     (λ c. search needs)
     (λ c. search needs)
     returns-2
-    (λ c. (omega arith, λ d image e. alone-none _ _ _ _ _ _)))
+    (λ c. (omega arith, λ d image q e. alone-none _ _ _ _ _ _)))

@@ -38,11 +38,11 @@ room w = room-later (start w .pre .0) (w .loop .inv .1 .size)
 rests : (i : tie.Then1 Inv-loop μ-loop) → let w = i .before .before .before .before in staysIdle (w .loop .f) (sampleAt (start w .args .stream .now) (w .loop .k)) ≡ true
 rests i = rw (i .before .before .sample-at .ensures) at (sym (i .before .stays-idle .ensures) ∙ i .if1 .taken)
 
-reads : (i : tie.Then2 Inv-loop μ-loop) → let w = i .before .before .before .before .before .before in wholeFrame (start w .args .stream .now) (start w .args .d .straps) 13 (w .loop .k) (start w .args .to) 18 ≡ true
+reads : (i : tie.Then2 Inv-loop μ-loop) → let w = i .before .before .before .before .before .before in wholeFrame (start w .args .stream .now) (start w .args .d .part) (start w .args .d .straps) 1 (w .loop .k) (start w .args .to) 18 ≡ true
 reads i = sym (i .before .is-whole-frame .ensures) ∙ i .if2 .taken
 
 lies : (i : tie.Then2 Inv-loop μ-loop) → let w = i .before .before .before .before .before .before in w .loop .k + 18 ≤ start w .args .to
-lies i = let h = whole-room _ _ _ _ _ _ (reads i) in omega arith
+lies i = let h = whole-room _ _ _ _ _ _ _ (reads i) in omega arith
 
 loop-again : tie.Need-loop-again Inv-loop μ-loop
 loop-again c =
@@ -69,13 +69,13 @@ returns c =
     let w = t .before .before .before .before .before .before .before .before in
     let z = start w in
     let x = t .clock-bus .ensures in
-    (x .0, alone-on (z .args .d) (z .args .to) (z .pre .1 .1) (x .0) (w .loop .inv .1) (x .1 _ _ refl))
+    (x .0, alone-on (z .args .d) (z .args .to) (z .pre .1 .1) (x .0) (w .loop .inv .1) (x .1 _ _ refl refl))
 
 loop-less-3 : tie.Need-loop-less-3 Inv-loop μ-loop
 loop-less-3 c =
     let t = c .before .before .before .before .before in
     let x = t .clock-bus .ensures in
-    omega (arith, x .0, x .1 (start (t .before .before .before .before .before .before .before .before) .args .d) [] refl .forward)
+    omega (arith, x .0, x .1 (start (t .before .before .before .before .before .before .before .before) .args .d) [] refl refl .forward)
 
 loop-again-3 : tie.Need-loop-again-3 Inv-loop μ-loop
 loop-again-3 c =
@@ -83,7 +83,7 @@ loop-again-3 c =
     let w = t .before .before .before .before .before .before .before .before in
     let z = start w in
     let x = t .clock-bus .ensures in
-    (x .0, alone-on (z .args .d) (z .args .to) (z .pre .1 .1) (x .0) (w .loop .inv .1) (x .1 _ _ refl))
+    (x .0, alone-on (z .args .d) (z .args .to) (z .pre .1 .1) (x .0) (w .loop .inv .1) (x .1 _ _ refl refl))
 
 pub run-bus-alone-spec : {M : Type 1} → statement M
 run-bus-alone-spec =
@@ -107,7 +107,7 @@ run-bus-alone-spec =
     (λ c. omega (arith, lies (c .before .before .before .before .before .before .before)))
     loop-again-2
     (λ c κs. let r = room (c .before .before .before .before .before .before .before) in (search needs, (r .given, r .wide)))
-    (λ c. let t = c .before .before .before .before in t .clock-bus .kept .1 .1 .0 ∙ t .before .before .before .before .before .before .before .before .loop .inv .1 .size)
+    (λ c. let t = c .before .before .before .before in t .clock-bus .kept .1 .1 .1 .0 ∙ t .before .before .before .before .before .before .before .before .loop .inv .1 .size)
     returns
     loop-less-3
     loop-again-3

@@ -17,7 +17,7 @@ stretch-write-requires c κs =
     let i = c .before .before in
     let z = i .before .before .before .before .before .before .before .before in
     let v = sym (i .before .is-whole-frame .ensures) ∙ i .if2 .taken in
-    let h = whole-room _ _ _ _ _ _ v in
+    let h = whole-room _ _ _ _ _ _ _ v in
     (z .pre .0, (omega (arith, z .pre), (z .pre .1 .1 .0, v)))
 
 stretch-clock-requires : tie.Need-stretch-clock-requires

@@ -1,47 +1,36 @@
 -- `lookahead::is_whole_frame` meets its contract: each test on the way to a return is the one of the definition. Assumes nothing.
 use borrow.Author.Needs.{needs}
 use mathlib.Core.Path.{_∙_, sym}
-use Rattle.lookahead.proofs.Looks.{whole-not-begun, whole-cut, whole-strap, whole-size, whole-head}
+use Rattle.lookahead.proofs.Looks.{whole-not-begun, whole-cut, whole-other, whole-head}
 use Rattle.lookahead.proofs.is_whole_frame.Statement.{statement}
 use Rattle.lookahead.proofs.is_whole_frame.Tie as tie
 
 returns : tie.Need-returns
 returns c =
-    let q = c .before in
-    let b = q .before in
-    let p = b .before in
-    let a = p .before in
-    let m = a .before in
+    let h = c .before in
+    let m = h .before .before in
     let i = m .before in
     let x = i .before in
     c .are-idle .ensures
-    ∙ whole-head _ _ _ _ _ _ (rw (x .before .sample-at .ensures) at (sym (x .is-start .ensures) ∙ i .if1 .taken)) (m .if2 .taken) (rw (a .lines-at .ensures) at (p .if3 .taken)) (rw (b .lines-at2 .ensures) at (q .if4 .taken))
+    ∙ whole-head _ _ _ _ _ _ _ (rw (x .before .start-of .ensures, x .before .before .sample-at .ensures) at (sym (x .is-start .ensures) ∙ i .if1 .taken)) (m .if2 .taken) (sym (h .before .head-fits .ensures) ∙ h .if3 .taken)
 
 returns-2 : tie.Need-returns-2
 returns-2 c =
-    let b = c .before in
-    let p = b .before in
-    let a = p .before in
-    let m = a .before in
+    let m = c .before .before in
     let i = m .before in
     let x = i .before in
-    whole-size _ _ _ _ _ _ (rw (x .before .sample-at .ensures) at (sym (x .is-start .ensures) ∙ i .if1 .taken)) (m .if2 .taken) (rw (a .lines-at .ensures) at (p .if3 .taken)) (rw (b .lines-at2 .ensures) at (c .if4 .left))
+    whole-other _ _ _ _ _ _ _ (rw (x .before .start-of .ensures, x .before .before .sample-at .ensures) at (sym (x .is-start .ensures) ∙ i .if1 .taken)) (m .if2 .taken) (sym (c .before .head-fits .ensures) ∙ c .if3 .left)
 
 returns-3 : tie.Need-returns-3
 returns-3 c =
-    let a = c .before in
-    let m = a .before in
-    let i = m .before in
+    let i = c .before in
     let x = i .before in
-    whole-strap _ _ _ _ _ _ (rw (x .before .sample-at .ensures) at (sym (x .is-start .ensures) ∙ i .if1 .taken)) (m .if2 .taken) (rw (a .lines-at .ensures) at (c .if3 .left))
+    whole-cut _ _ _ _ _ _ _ (rw (x .before .start-of .ensures, x .before .before .sample-at .ensures) at (sym (x .is-start .ensures) ∙ i .if1 .taken)) (c .if2 .left)
 
 returns-4 : tie.Need-returns-4
 returns-4 c =
-    let i = c .before in
-    whole-cut _ _ _ _ _ _ (rw (i .before .before .sample-at .ensures) at (sym (i .before .is-start .ensures) ∙ i .if1 .taken)) (c .if2 .left)
-
-returns-5 : tie.Need-returns-5
-returns-5 c = whole-not-begun _ _ _ _ _ _ (rw (c .before .before .sample-at .ensures) at (sym (c .before .is-start .ensures) ∙ c .if1 .left))
+    let x = c .before in
+    whole-not-begun _ _ _ _ _ _ _ (rw (x .before .start-of .ensures, x .before .before .sample-at .ensures) at (sym (x .is-start .ensures) ∙ c .if1 .left))
 
 pub is-whole-frame-spec : {M : Type 1} → statement M
 is-whole-frame-spec =
@@ -49,8 +38,6 @@ is-whole-frame-spec =
     (tie.spec
     (λ c κs. search needs)
     (λ c κs. search needs)
-    (λ c. search needs)
-    (λ c. search needs)
     (λ c κs. search needs)
     (λ c. search needs)
     (λ c κs. search needs)
@@ -60,5 +47,4 @@ is-whole-frame-spec =
     returns
     returns-2
     returns-3
-    returns-4
-    returns-5)
+    returns-4)

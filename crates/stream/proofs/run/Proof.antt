@@ -8,24 +8,24 @@ use Rattle.stream.proofs.run.Statement.{statement}
 use Rattle.stream.proofs.run.Tie as tie
 
 cast-fresh : tie.Need-cast-fresh
-cast-fresh c = let f = accepts _ _ _ _ _ _ _ (c .before .run-number .ensures) (c .if1 .taken) in omega (arith, f .strapped)
+cast-fresh c = let f = accepts _ _ _ _ _ _ _ _ (c .before .run-number .ensures) (c .if1 .taken) in omega (arith, f .strapped)
 
 times-of-requires : tie.Need-times-of-requires
-times-of-requires c κs = accepts _ _ _ _ _ _ _ (c .before .run-number .ensures) (c .if1 .taken) .timely
+times-of-requires c κs = accepts _ _ _ _ _ _ _ _ (c .before .run-number .ensures) (c .if1 .taken) .timely
 
 run-samples-requires : tie.Need-run-samples-requires
 run-samples-requires c κs =
     let p = c .before .before in
     let i = p .before .before in
-    let f = accepts _ _ _ _ _ _ _ (i .before .run-number .ensures) (i .if1 .taken) in (
-      rw (p .fresh .ensures, p .before .times-of .ensures) (fresh-sound _ _ (omega (arith, f .strapped)) (f .timely)),
+    let f = accepts _ _ _ _ _ _ _ _ (i .before .run-number .ensures) (i .if1 .taken) in (
+      rw (p .fresh .ensures, p .before .times-of .ensures) (fresh-sound _ _ _ (f .strapped) (f .timely)),
       (f .whole, (f .short, f .roomy)),
     )
 
 cast-t25 : tie.Need-cast-t25
 cast-t25 c =
     let i = c .before .before .before .before .before .before .before .before .before .before in
-    let f = accepts _ _ _ _ _ _ _ (i .before .run-number .ensures) (i .if1 .taken) in
+    let f = accepts _ _ _ _ _ _ _ _ (i .before .run-number .ensures) (i .if1 .taken) in
     omega (arith, f .short)
 
 returns : tie.Need-returns
@@ -34,10 +34,10 @@ returns c =
     let p = t .before .before .before in
     let i = p .before .before in
     let w = rw (p .fresh .ensures, p .before .times-of .ensures) at (t .run-samples .ensures) in
-    rw (c .before .status .ensures) (finishes _ _ _ _ _ _ _ (i .before .run-number .ensures) (i .if1 .taken) (w .0) (w .1))
+    rw (c .before .status .ensures) (finishes _ _ _ _ _ _ _ _ (i .before .run-number .ensures) (i .if1 .taken) (w .0) (w .1))
 
 returns-2 : tie.Need-returns-2
-returns-2 c = refuses _ _ _ _ _ _ _ (c .before .run-number .ensures) (c .if1 .left)
+returns-2 c = refuses _ _ _ _ _ _ _ _ (c .before .run-number .ensures) (c .if1 .left)
 
 pub run-spec : {M : Type 1} → statement M
 run-spec =
