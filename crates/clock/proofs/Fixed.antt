@@ -23,9 +23,10 @@ pub record Fixed (d e : Device) : Type 0 where
 reached-fixed : (d : Device) (sample address byte : ℕ) → Fixed d (reachedOf d sample address byte .device)
 unfolding reachedOf
 reached-fixed d sample address byte =
-    elim (ask (isArray address))
-    [ yes a ↦ rw a (record { part = refl; straps = refl; times = refl })
-    | no a ↦ rw a (record { part = refl; straps = refl; times = refl }) ]
+    elim (ask (isArray address)) [
+      | yes a ↦ rw a (record { part = refl; straps = refl; times = refl })
+      | no a ↦ rw a (record { part = refl; straps = refl; times = refl })
+    ]
 
 answered-fixed : (a : Asked) (d : Device) (late : List ℕ) (sample : ℕ) → Fixed d (answeredTo a d late sample .device)
 answered-fixed Silent d late sample = record { part = refl; straps = refl; times = refl }

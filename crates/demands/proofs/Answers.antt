@@ -16,10 +16,11 @@ use Rattle.record.specs.declared.Frame.{Frame}
 use Rattle.record.specs.declared.Operation.{Operation}
 use Rattle.record.specs.declared.Controller.{Controller}
 use Rattle.record.specs.declared.Device.{Device}
-use Rattle.record.specs.Record.{isIdle, isRead, isWrite, isProgram, blockOf}
+use Rattle.record.specs.Record.{isLpc, isIdle, isRead, isWrite, isBegun, isProgram, blockOf}
 use Rattle.record.specs.Sample.{lines, frameLine, isReset}
 use Rattle.part.specs.declared.Register.{Register}
 use Rattle.part.specs.declared.Register.the-variants.{Lock, Inputs, MakerCode, DeviceCode, Missing}
+use Rattle.part.specs.Parts.{deviceCode}
 use Rattle.part.specs.Registers.{registerAt}
 use Rattle.effect.specs.declared.Effect.the-variants.{Program, Fill}
 use Rattle.effect.specs.Effect.{applied}
@@ -31,7 +32,7 @@ use Rattle.operation.specs.Clock.{active, isStill, controllerClock}
 use Rattle.operation.proofs.Due.{due, effect-due}
 use Rattle.bus.specs.declared.Asked.{Asked}
 use Rattle.bus.specs.declared.Asked.the-variants.{Nothing as Silent, Read, Write}
-use Rattle.bus.specs.Frames.{begun, headed, readOn, writeOn, nextOf, frameClock, askedOf, drivenOf}
+use Rattle.bus.specs.Frames.{begun, shifted, headed, cycled, isChosen, addressed, headedLpc, readOn, writeOn, nextOf, frameClock, askedOf, drivenOf}
 use Rattle.access.specs.Read.{isArray, arrayAddress, lockOf, standing, registerValue, signatureOf, arrayValue, valueOf}
 use Rattle.access.specs.Write.{reachedOf}
 use Rattle.clock.specs.Clock.{withFrame, afterController, answeredTo, servedOf, deviceClock}
@@ -69,14 +70,16 @@ driven f h = pick (ask (isRead f)) (ask (isWrite f)) (ask (ltb (f .clock) 13)) (
     pick (no r) (yes w) a b (no c) (no d) e = rw (r, w, c, d)
 
 -- the byte of a frame: 0, a nibble, two nibbles, or as it was
-begun-byte : (n : ℕ) → begun n .byte < 256
+begun-byte : (part n : ℕ) → begun part n .byte < 256
 unfolding begun
-begun-byte n = pick (ask (eqb n 13)) (ask (eqb n 14))
+begun-byte part n = pick (ask (isLpc part)) (ask (eqb n 0)) (ask (eqb n 13)) (ask (eqb n 14))
   where
-    pick : Answer (eqb n 13) → Answer (eqb n 14) → begun n .byte < 256
-    pick (yes a) b = rw a (omega arith)
-    pick (no a) (yes b) = rw (a, b) (omega arith)
-    pick (no a) (no b) = rw (a, b) (omega arith)
+    pick : Answer (isLpc part) → Answer (eqb n 0) → Answer (eqb n 13) → Answer (eqb n 14) → begun part n .byte < 256
+    pick (yes l) (yes z) a b = rw (l, z) (omega arith)
+    pick (yes l) (no z) a b = rw (l, z) (omega arith)
+    pick (no l) z (yes a) b = rw (l, a) (omega arith)
+    pick (no l) z (no a) (yes b) = rw (l, a, b) (omega arith)
+    pick (no l) z (no a) (no b) = rw (l, a, b) (omega arith)
 
 headed-byte : (straps : ℕ) (f : Frame) (n : ℕ) → headed straps f n .byte < 256
 unfolding headed
@@ -88,6 +91,18 @@ headed-byte straps f n = pick (ask (eqb (f .clock) 1)) (ask (eqb n straps)) (ask
     pick (no a) b (yes c) d = rw (a, c) (omega arith)
     pick (no a) b (no c) (yes d) = rw (a, c, d) (omega arith)
     pick (no a) b (no c) (no d) = rw (a, c, d) (omega arith)
+
+headed-lpc-byte : (straps : ℕ) (f : Frame) (n : ℕ) → headedLpc straps f n .byte < 256
+unfolding headedLpc cycled addressed
+headed-lpc-byte straps f n = pick (ask (isBegun f)) (ask (eqb (n / 2) 2)) (ask (eqb (n / 2) 3)) (ask (ltb (f .clock) 9)) (ask (isChosen straps (shifted 1 (f .address) n)))
+  where
+    pick : Answer (isBegun f) → Answer (eqb (n / 2) 2) → Answer (eqb (n / 2) 3) → Answer (ltb (f .clock) 9) → Answer (isChosen straps (shifted 1 (f .address) n)) → headedLpc straps f n .byte < 256
+    pick (yes g) (yes a) b c d = rw (g, a) (omega arith)
+    pick (yes g) (no a) (yes b) c d = rw (g, a, b) (omega arith)
+    pick (yes g) (no a) (no b) c d = rw (g, a, b) (omega arith)
+    pick (no g) a b (yes c) d = rw (g, c) (omega arith)
+    pick (no g) a b (no c) (yes d) = rw (g, c, d) (omega arith)
+    pick (no g) a b (no c) (no d) = rw (g, c, d) (omega arith)
 
 read-byte : (f : Frame) → f .byte < 256 → readOn f .byte < 256
 unfolding readOn
@@ -107,16 +122,17 @@ write-byte f n l h = pick (ask (eqb (f .clock) 10)) (ask (eqb (f .clock) 11)) (a
     pick (no a) (no b) (yes c) = rw (a, b, c) h
     pick (no a) (no b) (no c) = rw (a, b, c) (omega arith)
 
-frame-byte : (straps : ℕ) (f : Frame) (s : ℕ) → f .byte < 256 → frameClock straps f s .byte < 256
+frame-byte : (part straps : ℕ) (f : Frame) (s : ℕ) → f .byte < 256 → frameClock part straps f s .byte < 256
 unfolding frameClock nextOf
-frame-byte straps f s h = pick (ask (eqb (frameLine s) 0)) (ask (isIdle f)) (ask (ltb (f .clock) 10)) (ask (isRead f))
+frame-byte part straps f s h = pick (ask (eqb (frameLine s) 0)) (ask (isIdle f)) (ask (ltb (f .clock) 10)) (ask (isLpc part)) (ask (isRead f))
   where
-    pick : Answer (eqb (frameLine s) 0) → Answer (isIdle f) → Answer (ltb (f .clock) 10) → Answer (isRead f) → frameClock straps f s .byte < 256
-    pick (yes a) b c d = rw a (begun-byte (lines s))
-    pick (no a) (yes b) c d = rw (a, b) h
-    pick (no a) (no b) (yes c) d = rw (a, b, c) (headed-byte straps f (lines s))
-    pick (no a) (no b) (no c) (yes d) = rw (a, b, c, d) (read-byte f h)
-    pick (no a) (no b) (no c) (no d) = rw (a, b, c, d) (write-byte f (lines s) (omega arith) h)
+    pick : Answer (eqb (frameLine s) 0) → Answer (isIdle f) → Answer (ltb (f .clock) 10) → Answer (isLpc part) → Answer (isRead f) → frameClock part straps f s .byte < 256
+    pick (yes a) b c l d = rw a (begun-byte part (lines s))
+    pick (no a) (yes b) c l d = rw (a, b) h
+    pick (no a) (no b) (yes c) (yes l) d = rw (a, b, c, l) (headed-lpc-byte straps f (lines s))
+    pick (no a) (no b) (yes c) (no l) d = rw (a, b, c, l) (headed-byte straps f (lines s))
+    pick (no a) (no b) (no c) l (yes d) = rw (a, b, c, d) (read-byte f h)
+    pick (no a) (no b) (no c) l (no d) = rw (a, b, c, d) (write-byte f (lines s) (omega arith) h)
 
 -- lists of bytes
 below-at : (xs : List ℕ) (i : ℕ) → allBelow 256 xs ≡ true → getD xs i 0 < 256
@@ -200,24 +216,25 @@ standing-below locks s MakerCode e h = omega arith
 standing-below locks s DeviceCode e h = omega arith
 standing-below locks s Missing e h = omega arith
 
-signature-below : (a : ℕ) → signatureOf a < 256
-unfolding signatureOf
-signature-below a = pick (ask (eqb a 0)) (ask (eqb a 1))
+signature-below : (part a : ℕ) → signatureOf part a < 256
+unfolding signatureOf deviceCode
+signature-below part a = pick (ask (eqb a 0)) (ask (eqb a 1)) (ask (isLpc part))
   where
-    pick : Answer (eqb a 0) → Answer (eqb a 1) → signatureOf a < 256
-    pick (yes x) y = rw x (omega arith)
-    pick (no x) (yes y) = rw (x, y) (omega arith)
-    pick (no x) (no y) = rw (x, y) (omega arith)
+    pick : Answer (eqb a 0) → Answer (eqb a 1) → Answer (isLpc part) → signatureOf part a < 256
+    pick (yes x) y l = rw x (omega arith)
+    pick (no x) (yes y) (yes l) = rw (x, y, l) (omega arith)
+    pick (no x) (yes y) (no l) = rw (x, y, l) (omega arith)
+    pick (no x) (no y) l = rw (x, y) (omega arith)
 
-array-below : (c : Controller) (lock a byte : ℕ) → c .errors < 256 → byte < 256 → arrayValue c lock a byte < 256
+array-below : (part : ℕ) (c : Controller) (lock a byte : ℕ) → c .errors < 256 → byte < 256 → arrayValue part c lock a byte < 256
 unfolding arrayValue
-array-below c lock a byte e h = pick (ask (eqb (c .mode) 0)) (ask (eqb (lock / 4 % 2) 1)) (ask (eqb (c .mode) 1))
+array-below part c lock a byte e h = pick (ask (eqb (c .mode) 0)) (ask (eqb (lock / 4 % 2) 1)) (ask (eqb (c .mode) 1))
   where
-    pick : Answer (eqb (c .mode) 0) → Answer (eqb (lock / 4 % 2) 1) → Answer (eqb (c .mode) 1) → arrayValue c lock a byte < 256
+    pick : Answer (eqb (c .mode) 0) → Answer (eqb (lock / 4 % 2) 1) → Answer (eqb (c .mode) 1) → arrayValue part c lock a byte < 256
     pick (yes m) (yes l) n = rw (m, l) (omega arith)
     pick (yes m) (no l) n = rw (m, l) h
     pick (no m) l (yes n) = rw (m, n) (status-below c e)
-    pick (no m) l (no n) = rw (m, n) (signature-below a)
+    pick (no m) l (no n) = rw (m, n) (signature-below part a)
 
 value-below : (d : Device) (s a byte : ℕ)
     → allBelow 256 (d .locks) ≡ true
@@ -229,8 +246,8 @@ unfolding valueOf registerValue
 value-below d s a byte l e h b = pick (ask (isArray a))
   where
     pick : Answer (isArray a) → valueOf d s a byte < 256
-    pick (yes x) = rw x (array-below (d .controller) (lockOf (d .locks) (arrayAddress a)) (arrayAddress a) byte e b)
-    pick (no x) = rw x (standing-below (d .locks) s (registerAt a) l h)
+    pick (yes x) = rw x (array-below (d .part) (d .controller) (lockOf (d .locks) (arrayAddress a)) (arrayAddress a) byte e b)
+    pick (no x) = rw x (standing-below (d .locks) s (registerAt (d .part) (d .straps) a) l h)
 
 reached-frame : (d : Device) (s a byte : ℕ) → reachedOf d s a byte .device .frame ≡ d .frame
 unfolding reachedOf
@@ -260,7 +277,7 @@ answer-byte d image sample w = pick (ask (isReset sample))
     pick (no r) =
         rw r
         (driven _
-        (answered-byte (withFrame (afterController d) (frameClock (d .straps) (d .frame) sample)) (applied (controllerClock (d .controller) .effect) image) sample
+        (answered-byte (withFrame (afterController d) (frameClock (d .part) (d .straps) (d .frame) sample)) (applied (controllerClock (d .controller) .effect) image) sample
         (holds _ 1 w) errors (below-after image (holds _ 3 w) (d .controller)) (ltb-true sample 65536 (holds _ 4 w))
-        (askedOf (frameClock (d .straps) (d .frame) sample))
-        (frame-byte (d .straps) (d .frame) sample (ltb-true (d .frame .byte) 256 (holds _ 0 w)))))
+        (askedOf (frameClock (d .part) (d .straps) (d .frame) sample))
+        (frame-byte (d .part) (d .straps) (d .frame) sample (ltb-true (d .frame .byte) 256 (holds _ 0 w)))))

@@ -83,26 +83,26 @@ clocks (a ∷ acts) w g =
     let h : Good (left a w) = rw c (good-ending (befalls a w) w g) in
     clocks acts (left a w) h ∙ ap (ending (events acts (left a w))) c ∙ sym (ending-on (befalls a w) (events acts (left a w)) w)
 
-pub powered : (straps program slice pause : ℕ) (image : List ℕ) → length image ≡ 1048576 → Good (atPowerUp straps program slice pause image)
-powered straps program slice pause image l = record { sound = powered-sound straps program slice pause; size = l }
+pub powered : (part straps program slice pause : ℕ) (image : List ℕ) → length image ≡ 1048576 → Good (atPowerUp part straps program slice pause image)
+powered part straps program slice pause image l = record { sound = powered-sound part straps program slice pause; size = l }
 
 pub calls-are-clocks : CallsAreClocks
 unfolding CallsAreClocks
-calls-are-clocks straps program slice pause image history l =
-    clocks history (atPowerUp straps program slice pause image) (powered straps program slice pause image l)
+calls-are-clocks part straps program slice pause image history l =
+    clocks history (atPowerUp part straps program slice pause image) (powered part straps program slice pause image l)
 
 pub demand-3 : Demand3
 unfolding Demand3
-demand-3 straps program slice pause image history block l h m t =
-    let w = atPowerUp straps program slice pause image in
-    let c = clocks history w (powered straps program slice pause image l) in
+demand-3 part straps program slice pause image history block l h m t =
+    let w = atPowerUp part straps program slice pause image in
+    let c = clocks history w (powered part straps program slice pause image l) in
     ap (λ (v : World). contents block (v .image)) c
-    ∙ clocked straps program slice pause image (events history w) block l h
+    ∙ clocked part straps program slice pause image (events history w) block l h
     (ap (λ (v : World). marked (v .device .controller .marks) block) (sym c) ∙ m)
     (ap (isThere block) (sym c) ∙ t)
 
 pub demand-3-allowed : Demand3Allowed
 unfolding Demand3Allowed
-demand-3-allowed straps program slice pause image history block l h =
-    let w = atPowerUp straps program slice pause image in
-    all-allowed block (events history w) w h (powered straps program slice pause image l)
+demand-3-allowed part straps program slice pause image history block l h =
+    let w = atPowerUp part straps program slice pause image in
+    all-allowed block (events history w) w h (powered part straps program slice pause image l)

@@ -6,16 +6,17 @@ use mathlib.Core.Bool.{Bool, true, false, cond, not, _||_}
 use mathlib.Core.List.{List, [], _∷_}
 use native.Mathlib.Omega.{arith}
 use native.Mathlib.Nat.{not-suc-le-zero}
-use lib.Dec.{eqb, ltb}
+use lib.Dec.{eqb, ltb, leb}
 use lib.Bits.{bitAnd}
 use lib.ListN.{length, getD, take, drop}
-use borrow.Author.Tests.{eqb-true, eqb-false, eq-eqb, ne-eqb, ltb-true, ltb-false}
+use borrow.Author.Tests.{eqb-true, eqb-false, eq-eqb, ne-eqb, ltb-true, ltb-false, lt-ltb, le-leb}
 use Rattle.basics.proofs.Rules.{Answer, yes, no, ask, clash}
 use Rattle.basics.specs.All.{all}
 use Rattle.basics.specs.Bytes.{twoAt}
 use Rattle.units.specs.Units.{times, inRange, timesFit}
 use Rattle.record.specs.declared.Device.{Device}
 use Rattle.record.specs.Sample.{frameLine, rp, init, voltage, isReset, isIdleSample, samples}
+use Rattle.part.specs.Parts.{strapCount}
 use Rattle.soundness.specs.Sound.{soundOf}
 use Rattle.status.specs.Status.{statusOf}
 use Rattle.power.specs.Power.{powerRefused, poweredUp, timesSet}
@@ -27,7 +28,7 @@ use Rattle.settle.specs.declared.Settled.{Settled}
 use Rattle.settle.specs.Settle.{isReady, Stop, settling, settleNumber, stopNumber, settledOf, imageSettled}
 use Rattle.settle.proofs.Least.{Least, least}
 use Rattle.settle.proofs.Laws.{accepted}
-use Rattle.stream.specs.Run.{overvolted, misshapen, Ran, runNumber, ranOf}
+use Rattle.stream.specs.Run.{overvolted, misshapen, Ran, streamNumber, runNumber, ranOf}
 use Rattle.view.specs.declared.Piece.{Piece}
 use Rattle.view.specs.Shown.{isZeros, canShow, readLocked, shown, piece, pieceShown}
 use Rattle.sheet.specs.Sheet.{ofLayout, strapsIn, timesIn, SheetWritten, laid, readOf, numbersOf, writeOf}
@@ -39,12 +40,12 @@ use Rattle.demands.proofs.Calls.{goes-on}
 
 -- the one outcome that each promise admits
 promised : (c : Call) → Given c
-promised (powerUp straps program slice pause) = poweredUp straps program slice pause
+promised (powerUp part straps program slice pause) = poweredUp part straps program slice pause
 promised (setTimes d program slice pause) = timesSet d program slice pause
 promised (step d image sample) = (steppedOf d image sample, storedOf d image sample)
 promised (settle d image sample limit) = (settledOf d image sample limit, imageSettled d image sample limit)
-promised (run image stream answers straps program slice pause) =
-    let r = ranOf image stream answers straps program slice pause in (r .report, r .image, r .answers)
+promised (run image stream answers part straps program slice pause) =
+    let r = ranOf image stream answers part straps program slice pause in (r .report, r .image, r .answers)
 promised (readSheet bytes) = numbersOf (readOf bytes)
 promised (readSheetAsEnum bytes) = readOf bytes
 promised (writeSheet buffer straps program slice pause) =
@@ -58,11 +59,11 @@ promised (tellMarks d) = marksTold d
 
 only : (c : Call) (g : Given c) → Promised c g → g ≡ promised c
 unfolding promised
-only (powerUp straps program slice pause) g e = e
+only (powerUp part straps program slice pause) g e = e
 only (setTimes d program slice pause) g e = e
 only (step d image sample) g e = rw (e .0, e .1)
 only (settle d image sample limit) g e = rw (e .0, e .1)
-only (run image stream answers straps program slice pause) g e = ap (λ (r : Ran). (r .report, r .image, r .answers)) e
+only (run image stream answers part straps program slice pause) g e = ap (λ (r : Ran). (r .report, r .image, r .answers)) e
 only (readSheet bytes) g e = e
 only (readSheetAsEnum bytes) g e = e
 only (writeSheet buffer straps program slice pause) g e = ap (λ (r : SheetWritten). (r .number, r .buffer)) e
@@ -141,16 +142,28 @@ raw-times : (program slice pause : ℕ) → areTimes program slice pause ≡ tim
 unfolding timesFit inRange all
 raw-times program slice pause = refl
 
-row : (c : Call) → Row c
-unfolding promised poweredUp powerRefused timesSet steppedOf storedOf stepNumber settledOf imageSettled settleNumber ranOf runNumber readOf writeOf
-row (powerUp straps program slice pause) = pick (ask (ltb 15 straps)) (ask (timesFit (times program slice pause)))
+raw-straps : (part straps : ℕ) → (ltb 1 part || ltb (cond (eqb part 1) 3 15) straps) ≡ leb (strapCount part) straps
+unfolding strapCount
+raw-straps part straps = pick (ask (eqb part 1)) (ask (eqb part 0))
   where
-    pick : Answer (ltb 15 straps)
+    pick : Answer (eqb part 1) → Answer (eqb part 0) → (ltb 1 part || ltb (cond (eqb part 1) 3 15) straps) ≡ leb (strapCount part) straps
+    pick (yes l) z = let e = eqb-true part 1 l in rw e
+    pick (no l) (yes z) = let e = eqb-true part 0 z in rw e
+    pick (no l) (no z) =
+        let x = eqb-false part 1 l in
+        let y = eqb-false part 0 z in
+        rw (l, z, lt-ltb 1 part (omega arith), le-leb 0 straps (omega arith))
+
+row : (c : Call) → Row c
+unfolding promised poweredUp powerRefused timesSet steppedOf storedOf stepNumber settledOf imageSettled settleNumber ranOf runNumber streamNumber readOf writeOf
+row (powerUp part straps program slice pause) = pick (ask (leb (strapCount part) straps)) (ask (timesFit (times program slice pause)))
+  where
+    pick : Answer (leb (strapCount part) straps)
         → Answer (timesFit (times program slice pause))
-        → Row (powerUp straps program slice pause)
-    pick (yes a) b = rw a (refl, λ h l. refl)
-    pick (no a) (yes b) = rw (raw-times program slice pause, a, b) (refl, λ h l. absurd (not-suc-le-zero h))
-    pick (no a) (no b) = rw (raw-times program slice pause, a, b) (refl, λ h l. refl)
+        → Row (powerUp part straps program slice pause)
+    pick (yes a) b = rw (raw-straps part straps, a) (refl, λ h l. refl)
+    pick (no a) (yes b) = rw (raw-straps part straps, raw-times program slice pause, a, b) (refl, λ h l. absurd (not-suc-le-zero h))
+    pick (no a) (no b) = rw (raw-straps part straps, raw-times program slice pause, a, b) (refl, λ h l. refl)
 row (setTimes d program slice pause) = pick (ask (soundOf d)) (ask (timesFit (times program slice pause)))
   where
     pick : Answer (soundOf d)
@@ -191,22 +204,22 @@ row (settle d image sample limit) = pick (ask (soundOf d)) (ask (eqb (length ima
         let k = busy a (eqb-true (length image) 1048576 b) c in rw (restful, k, a, b, c, d, e) (refl, λ h l. absurd (not-suc-le-zero h))
     pick (yes a) (yes b) (no c) (yes d) (no e) =
         let k = busy a (eqb-true (length image) 1048576 b) c in rw (restful, k, a, b, c, d, e) (refl, λ h l. absurd (below-ten l))
-row (run image stream answers straps program slice pause) = pick (ask (eqb (length image) 1048576)) (ask (ltb 15 straps)) (ask (timesFit (times program slice pause))) (ask (misshapen stream)) (ask (ltb (length answers) (length stream / 2))) (ask (overvolted (samples stream)))
+row (run image stream answers part straps program slice pause) = pick (ask (eqb (length image) 1048576)) (ask (leb (strapCount part) straps)) (ask (timesFit (times program slice pause))) (ask (misshapen stream)) (ask (ltb (length answers) (length stream / 2))) (ask (overvolted (samples stream)))
   where
     pick : Answer (eqb (length image) 1048576)
-        → Answer (ltb 15 straps)
+        → Answer (leb (strapCount part) straps)
         → Answer (timesFit (times program slice pause))
         → Answer (misshapen stream)
         → Answer (ltb (length answers) (length stream / 2))
         → Answer (overvolted (samples stream))
-        → Row (run image stream answers straps program slice pause)
+        → Row (run image stream answers part straps program slice pause)
     pick (no a) b c d e f = rw a (refl, λ h l. refl)
-    pick (yes a) (yes b) c d e f = rw (a, b) (refl, λ h l. refl)
-    pick (yes a) (no b) (no c) d e f = rw (raw-times program slice pause, a, b, c) (refl, λ h l. refl)
-    pick (yes a) (no b) (yes c) (yes d) e f = rw (raw-times program slice pause, odd stream, a, b, c, d) (refl, λ h l. refl)
-    pick (yes a) (no b) (yes c) (no d) (yes e) f = rw (raw-times program slice pause, odd stream, a, b, c, d, e) (refl, λ h l. refl)
-    pick (yes a) (no b) (yes c) (no d) (no e) (yes f) = rw (raw-times program slice pause, odd stream, class-3 (samples stream), a, b, c, d, e, f) (refl, λ h l. refl)
-    pick (yes a) (no b) (yes c) (no d) (no e) (no f) = rw (raw-times program slice pause, odd stream, class-3 (samples stream), a, b, c, d, e, f) (refl, λ h l. absurd (not-suc-le-zero h))
+    pick (yes a) (yes b) c d e f = rw (raw-straps part straps, a, b) (refl, λ h l. refl)
+    pick (yes a) (no b) (no c) d e f = rw (raw-straps part straps, raw-times program slice pause, a, b, c) (refl, λ h l. refl)
+    pick (yes a) (no b) (yes c) (yes d) e f = rw (raw-straps part straps, raw-times program slice pause, odd stream, a, b, c, d) (refl, λ h l. refl)
+    pick (yes a) (no b) (yes c) (no d) (yes e) f = rw (raw-straps part straps, raw-times program slice pause, odd stream, a, b, c, d, e) (refl, λ h l. refl)
+    pick (yes a) (no b) (yes c) (no d) (no e) (yes f) = rw (raw-straps part straps, raw-times program slice pause, odd stream, class-3 (samples stream), a, b, c, d, e, f) (refl, λ h l. refl)
+    pick (yes a) (no b) (yes c) (no d) (no e) (no f) = rw (raw-straps part straps, raw-times program slice pause, odd stream, class-3 (samples stream), a, b, c, d, e, f) (refl, λ h l. absurd (not-suc-le-zero h))
 row (readSheet bytes) = pick (ask (ofLayout bytes)) (ask (ltb 15 (strapsIn bytes))) (ask (timesFit (timesIn bytes)))
   where
     pick : Answer (ofLayout bytes)
@@ -366,12 +379,12 @@ numbers-shown d image page block =
 -- what a call that is done gives
 done-row : (c : Call) → outcome c (promised c) .number ≡ 0 → Right c (promised c)
 unfolding promised poweredUp powerRefused timesSet steppedOf storedOf stepNumber readOf writeOf laid statusTold marksTold
-done-row (powerUp straps program slice pause) = pick (ask (ltb 15 straps)) (ask (timesFit (times program slice pause)))
+done-row (powerUp part straps program slice pause) = pick (ask (leb (strapCount part) straps)) (ask (timesFit (times program slice pause)))
   where
-    pick : Answer (ltb 15 straps)
+    pick : Answer (leb (strapCount part) straps)
         → Answer (timesFit (times program slice pause))
-        → outcome (powerUp straps program slice pause) (promised (powerUp straps program slice pause)) .number ≡ 0
-        → Right (powerUp straps program slice pause) (promised (powerUp straps program slice pause))
+        → outcome (powerUp part straps program slice pause) (promised (powerUp part straps program slice pause)) .number ≡ 0
+        → Right (powerUp part straps program slice pause) (promised (powerUp part straps program slice pause))
     pick (yes a) b n = absurd (eqb-false 3 0 refl (rw a at n))
     pick (no a) (yes b) n = rw (a, b)
     pick (no a) (no b) n = absurd (eqb-false 4 0 refl (rw (a, b) at n))
@@ -396,7 +409,7 @@ done-row (step d image sample) = pick (ask (soundOf d)) (ask (eqb (length image)
     pick (yes a) (yes b) (yes c) n = absurd (eqb-false 7 0 refl (rw (a, b, c) at n))
     pick (yes a) (yes b) (no c) n = rw (a, b, c) (refl, refl, refl)
 done-row (settle d image sample limit) = λ n. tt
-done-row (run image stream answers straps program slice pause) = λ n. tt
+done-row (run image stream answers part straps program slice pause) = λ n. tt
 done-row (readSheet bytes) = pick (ask (ofLayout bytes)) (ask (ltb 15 (strapsIn bytes))) (ask (timesFit (timesIn bytes)))
   where
     pick : Answer (ofLayout bytes)

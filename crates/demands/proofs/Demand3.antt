@@ -4,7 +4,7 @@ use Prim.Native.Nat.{ℕ, _<_}
 use mathlib.Core.Path.{_≡_, _∙_, sym, refl, ap}
 use mathlib.Core.Bool.{Bool, true, false, cond, not}
 use mathlib.Core.List.{List, [], _∷_, _++_}
-use lib.Dec.{eqb, ltb}
+use lib.Dec.{eqb, ltb, leb}
 use lib.ListN.{length}
 use borrow.Author.Tests.{eqb-true, eqb-false, ne-eqb, not-false}
 use Rattle.basics.proofs.Rules.{Answer, yes, no, ask, clash}
@@ -15,6 +15,7 @@ use Rattle.record.specs.declared.Device.{Device}
 use Rattle.record.specs.Record.{isAbsent, isProgram, isErase, absent}
 use Rattle.record.specs.Sample.{voltage}
 use Rattle.part.specs.Fresh.{freshOf}
+use Rattle.part.specs.Parts.{strapCount}
 use Rattle.soundness.specs.Sound.{soundOf}
 use Rattle.power.specs.Power.{powerRefused, poweredUp, timesSet}
 use Rattle.power.proofs.Laws.{powered-sound, set-sound}
@@ -214,27 +215,27 @@ told b (e ∷ es) w x l g h m t =
     paged b e es w x (contents b (ending es (after e w) .image)) (turn b e w l g) h (λ y k. told b es (after e w) y l (good-after e w g) k m t)
 
 -- power-up: no operation, no mark
-fresh-none : (b straps program slice pause : ℕ) → opOf b (poweredUp straps program slice pause .device .controller) ≡ absent
+fresh-none : (b part straps program slice pause : ℕ) → opOf b (poweredUp part straps program slice pause .device .controller) ≡ absent
 unfolding poweredUp powerRefused freshOf opOf isOn
-fresh-none b straps program slice pause = pick (ask (ltb 15 straps)) (ask (timesFit (times program slice pause)))
+fresh-none b part straps program slice pause = pick (ask (leb (strapCount part) straps)) (ask (timesFit (times program slice pause)))
   where
-    pick : Answer (ltb 15 straps) → Answer (timesFit (times program slice pause)) → opOf b (poweredUp straps program slice pause .device .controller) ≡ absent
+    pick : Answer (leb (strapCount part) straps) → Answer (timesFit (times program slice pause)) → opOf b (poweredUp part straps program slice pause .device .controller) ≡ absent
     pick (yes a) c = rw a
     pick (no a) (yes c) = rw (a, c)
     pick (no a) (no c) = rw (a, c)
 
-pub clocked : (straps program slice pause : ℕ) (image : List ℕ) (es : List Event) (block : ℕ)
+pub clocked : (part straps program slice pause : ℕ) (image : List ℕ) (es : List Event) (block : ℕ)
     → length image ≡ 1048576
     → block < 16
-    → marked (ending es (atPowerUp straps program slice pause image) .device .controller .marks) block ≡ false
-    → isThere block (ending es (atPowerUp straps program slice pause image)) ≡ false
-    → contents block (ending es (atPowerUp straps program slice pause image) .image)
-    ≡ doneInOrder (operations block es (atPowerUp straps program slice pause image)) (contents block image)
+    → marked (ending es (atPowerUp part straps program slice pause image) .device .controller .marks) block ≡ false
+    → isThere block (ending es (atPowerUp part straps program slice pause image)) ≡ false
+    → contents block (ending es (atPowerUp part straps program slice pause image) .image)
+    ≡ doneInOrder (operations block es (atPowerUp part straps program slice pause image)) (contents block image)
 unfolding wholeOr
-clocked straps program slice pause image es block l h m t =
-    let w = atPowerUp straps program slice pause image in
-    let o = fresh-none block straps program slice pause in
-    told block es w (contents block image) h (record { sound = powered-sound straps program slice pause; size = l })
+clocked part straps program slice pause image es block l h m t =
+    let w = atPowerUp part straps program slice pause image in
+    let o = fresh-none block part straps program slice pause in
+    told block es w (contents block image) h (record { sound = powered-sound part straps program slice pause; size = l })
     (record { holds = λ u. rw o (ap (contents block) (absent-rest absent image refl)) }) m t
     ∙ ap (doneInOrder (operations block es w)) (awaits-none block es w (contents block image) (rw o))
 

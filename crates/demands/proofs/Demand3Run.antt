@@ -5,9 +5,9 @@ use mathlib.Core.Bool.{Bool, true, false, cond}
 use mathlib.Core.List.{List, [], _∷_, map}
 use native.Mathlib.Omega.{arith}
 use lib.Bits.{bitAnd, bitOr, and-le-r}
-use lib.Dec.{eqb, ltb}
+use lib.Dec.{eqb, ltb, leb}
 use lib.ListN.{length}
-use borrow.Author.Tests.{eqb-true, eqb-false, ltb-false}
+use borrow.Author.Tests.{eqb-true, eqb-false, leb-false}
 use Rattle.basics.proofs.Rules.{Answer, yes, no, ask, clash}
 use Rattle.basics.proofs.Table.{at}
 use Rattle.units.specs.Units.{times, timesFit}
@@ -16,6 +16,7 @@ use Rattle.record.specs.declared.Device.{Device}
 use Rattle.record.specs.Record.{isAbsent}
 use Rattle.record.specs.Sample.{voltage, samples}
 use Rattle.part.specs.Fresh.{freshOf}
+use Rattle.part.specs.Parts.{strapCount}
 use Rattle.status.specs.declared.Condition.{Condition}
 use Rattle.status.specs.declared.Condition.the-variants.{Ready, Running, Pausing, ProgramSuspended, EraseSuspended, ProgramInside}
 use Rattle.status.specs.Status.{conditionOf, conditionBits, statusOf}
@@ -26,7 +27,7 @@ use Rattle.power.proofs.Laws.{powered-sound, power-0}
 use Rattle.operation.specs.Marks.{marked}
 use Rattle.step.specs.Step.{stepNumber, steppedOf}
 use Rattle.clock.specs.Fold.{World, world, through, answerTo, answersTo}
-use Rattle.stream.specs.Run.{overvolted, misshapen, runNumber, ranOf}
+use Rattle.stream.specs.Run.{overvolted, misshapen, streamNumber, runNumber, ranOf}
 use Rattle.demands.specs.History.{clock, after, step, leaving, events, atPowerUp, isThere, tellsNone, contents, answering, RunIsSteps, CallsAreClocks, Demand3, Demand3Run, Demand3Told}
 use Rattle.demands.proofs.Counting.{off-absent}
 use Rattle.demands.proofs.Turns.{Good, op-none}
@@ -47,23 +48,23 @@ as-history (s ∷ ss) w g e =
     as-history ss (after (clock s) w) (good-after (clock s) w g) (c .1) ∙ ap (through ss) (goes-on w s g (c .0))
 
 -- what a run that is done has found
-record Done (image stream : List ℕ) (straps program slice pause : ℕ) : Type 0 where
+record Done (image stream : List ℕ) (part straps program slice pause : ℕ) : Type 0 where
   size : length image ≡ 1048576
-  straps-fit : straps ≤ 15
+  straps-fit : straps < strapCount part
   times-fit : timesFit (times program slice pause) ≡ true
   volts : overvolted (samples stream) ≡ false
 
-found : (image stream answers : List ℕ) (straps program slice pause : ℕ) → runNumber image stream answers straps program slice pause ≡ 0 → Done image stream straps program slice pause
-unfolding runNumber
-found image stream answers straps program slice pause n = pick (ask (eqb (length image) 1048576)) (ask (ltb 15 straps)) (ask (timesFit (times program slice pause))) (ask (misshapen stream)) (ask (ltb (length answers) (length stream / 2))) (ask (overvolted (samples stream)))
+found : (image stream answers : List ℕ) (part straps program slice pause : ℕ) → runNumber image stream answers part straps program slice pause ≡ 0 → Done image stream part straps program slice pause
+unfolding runNumber streamNumber
+found image stream answers part straps program slice pause n = pick (ask (eqb (length image) 1048576)) (ask (leb (strapCount part) straps)) (ask (timesFit (times program slice pause))) (ask (misshapen stream)) (ask (ltb (length answers) (length stream / 2))) (ask (overvolted (samples stream)))
   where
     pick : Answer (eqb (length image) 1048576)
-        → Answer (ltb 15 straps)
+        → Answer (leb (strapCount part) straps)
         → Answer (timesFit (times program slice pause))
         → Answer (misshapen stream)
         → Answer (ltb (length answers) (length stream / 2))
         → Answer (overvolted (samples stream))
-        → Done image stream straps program slice pause
+        → Done image stream part straps program slice pause
     pick (no a) b c d e f = absurd (eqb-false 2 0 refl (rw a at n))
     pick (yes a) (yes b) c d e f = absurd (eqb-false 3 0 refl (rw (a, b) at n))
     pick (yes a) (no b) (no c) d e f = absurd (eqb-false 4 0 refl (rw (a, b, c) at n))
@@ -71,43 +72,43 @@ found image stream answers straps program slice pause n = pick (ask (eqb (length
     pick (yes a) (no b) (yes c) (no d) (yes e) f = absurd (eqb-false 6 0 refl (rw (a, b, c, d, e) at n))
     pick (yes a) (no b) (yes c) (no d) (no e) (yes f) = absurd (eqb-false 7 0 refl (rw (a, b, c, d, e, f) at n))
     pick (yes a) (no b) (yes c) (no d) (no e) (no f) =
-        record { size = eqb-true (length image) 1048576 a; straps-fit = ltb-false 15 straps b; times-fit = c; volts = f }
+        record { size = eqb-true (length image) 1048576 a; straps-fit = leb-false (strapCount part) straps b; times-fit = c; volts = f }
 
-number-of : (image stream answers : List ℕ) (straps program slice pause : ℕ)
-    → ranOf image stream answers straps program slice pause .report .number ≡ runNumber image stream answers straps program slice pause
+number-of : (image stream answers : List ℕ) (part straps program slice pause : ℕ)
+    → ranOf image stream answers part straps program slice pause .report .number ≡ runNumber image stream answers part straps program slice pause
 unfolding ranOf
-number-of image stream answers straps program slice pause = pick (ask (eqb (runNumber image stream answers straps program slice pause) 0))
+number-of image stream answers part straps program slice pause = pick (ask (eqb (runNumber image stream answers part straps program slice pause) 0))
   where
-    pick : Answer (eqb (runNumber image stream answers straps program slice pause) 0) → ranOf image stream answers straps program slice pause .report .number ≡ runNumber image stream answers straps program slice pause
-    pick (yes e) = rw e (sym (eqb-true (runNumber image stream answers straps program slice pause) 0 e))
+    pick : Answer (eqb (runNumber image stream answers part straps program slice pause) 0) → ranOf image stream answers part straps program slice pause .report .number ≡ runNumber image stream answers part straps program slice pause
+    pick (yes e) = rw e (sym (eqb-true (runNumber image stream answers part straps program slice pause) 0 e))
     pick (no e) = rw e
 
-module _ (image stream answers : List ℕ) (straps program slice pause : ℕ) (n : ranOf image stream answers straps program slice pause .report .number ≡ 0) where
-  z : runNumber image stream answers straps program slice pause ≡ 0
-  z = sym (number-of image stream answers straps program slice pause) ∙ n
+module _ (image stream answers : List ℕ) (part straps program slice pause : ℕ) (n : ranOf image stream answers part straps program slice pause .report .number ≡ 0) where
+  z : runNumber image stream answers part straps program slice pause ≡ 0
+  z = sym (number-of image stream answers part straps program slice pause) ∙ n
 
-  d : Done image stream straps program slice pause
-  d = found image stream answers straps program slice pause z
+  d : Done image stream part straps program slice pause
+  d = found image stream answers part straps program slice pause z
 
-  start : atPowerUp straps program slice pause image ≡ world (freshOf straps (times program slice pause)) image
-  start = ap (λ (p : _). world (p .device) image) (power-0 straps program slice pause (d .straps-fit) (d .times-fit))
+  start : atPowerUp part straps program slice pause image ≡ world (freshOf part straps (times program slice pause)) image
+  start = ap (λ (p : _). world (p .device) image) (power-0 part straps program slice pause (d .straps-fit) (d .times-fit))
 
-  end : leaving (map step (samples stream)) (atPowerUp straps program slice pause image) ≡ through (samples stream) (world (freshOf straps (times program slice pause)) image)
+  end : leaving (map step (samples stream)) (atPowerUp part straps program slice pause image) ≡ through (samples stream) (world (freshOf part straps (times program slice pause)) image)
   end =
-      as-history (samples stream) (atPowerUp straps program slice pause image) (record { sound = powered-sound straps program slice pause; size = d .size }) (d .volts)
+      as-history (samples stream) (atPowerUp part straps program slice pause image) (record { sound = powered-sound part straps program slice pause; size = d .size }) (d .volts)
       ∙ ap (through (samples stream)) start
 
-  run-image : ranOf image stream answers straps program slice pause .image ≡ leaving (map step (samples stream)) (atPowerUp straps program slice pause image) .image
+  run-image : ranOf image stream answers part straps program slice pause .image ≡ leaving (map step (samples stream)) (atPowerUp part straps program slice pause image) .image
   unfolding ranOf
   run-image = rw z (ap (λ (w : World). w .image) (sym end))
 
-  run-marks : ranOf image stream answers straps program slice pause .report .marks
-      ≡ leaving (map step (samples stream)) (atPowerUp straps program slice pause image) .device .controller .marks
+  run-marks : ranOf image stream answers part straps program slice pause .report .marks
+      ≡ leaving (map step (samples stream)) (atPowerUp part straps program slice pause image) .device .controller .marks
   unfolding ranOf
   run-marks = rw z (ap (λ (w : World). w .device .controller .marks) (sym end))
 
-  run-status : ranOf image stream answers straps program slice pause .report .status
-      ≡ statusOf (leaving (map step (samples stream)) (atPowerUp straps program slice pause image) .device .controller)
+  run-status : ranOf image stream answers part straps program slice pause .report .status
+      ≡ statusOf (leaving (map step (samples stream)) (atPowerUp part straps program slice pause image) .device .controller)
   unfolding ranOf
   run-status = rw z (ap (λ (w : World). statusOf (w .device .controller)) (sym end))
 
@@ -157,23 +158,23 @@ none-told b w g t =
 
 pub demand-3-run : Demand3Run
 unfolding Demand3Run Demand3
-demand-3-run image stream answers straps program slice pause block h n m t =
-    let f = d image stream answers straps program slice pause n in
-    ap (contents block) (run-image image stream answers straps program slice pause n)
-    ∙ demand-3 straps program slice pause image (map step (samples stream)) block (f .size) h
-    (ap (λ (k : ℕ). marked k block) (sym (run-marks image stream answers straps program slice pause n)) ∙ m)
+demand-3-run image stream answers part straps program slice pause block h n m t =
+    let f = d image stream answers part straps program slice pause n in
+    ap (contents block) (run-image image stream answers part straps program slice pause n)
+    ∙ demand-3 part straps program slice pause image (map step (samples stream)) block (f .size) h
+    (ap (λ (k : ℕ). marked k block) (sym (run-marks image stream answers part straps program slice pause n)) ∙ m)
     t
 
 pub demand-3-told : Demand3Told
 unfolding Demand3Told Demand3Run CallsAreClocks
-demand-3-told image stream answers straps program slice pause block h n m t =
-    let f = d image stream answers straps program slice pause n in
-    let w = atPowerUp straps program slice pause image in
-    let c = calls-are-clocks straps program slice pause image (map step (samples stream)) (f .size) in
+demand-3-told image stream answers part straps program slice pause block h n m t =
+    let f = d image stream answers part straps program slice pause n in
+    let w = atPowerUp part straps program slice pause image in
+    let c = calls-are-clocks part straps program slice pause image (map step (samples stream)) (f .size) in
     let g : Good (leaving (map step (samples stream)) w) =
-    rw c (good-ending (events (map step (samples stream)) w) w (powered straps program slice pause image (f .size))) in
-    demand-3-run image stream answers straps program slice pause block h n m
-    (none-told block (leaving (map step (samples stream)) w) g (ap tellsNone (sym (run-status image stream answers straps program slice pause n)) ∙ t))
+    rw c (good-ending (events (map step (samples stream)) w) w (powered part straps program slice pause image (f .size))) in
+    demand-3-run image stream answers part straps program slice pause block h n m
+    (none-told block (leaving (map step (samples stream)) w) g (ap tellsNone (sym (run-status image stream answers part straps program slice pause n)) ∙ t))
 
 -- the answers of the steps
 stepped-answer : (w : World) (s : ℕ) → Good w → eqb (voltage s) 3 ≡ false → steppedOf (w .device) (w .image) s .answer ≡ answerTo w s
@@ -188,8 +189,8 @@ as-answers (s ∷ ss) w g e =
 
 pub run-is-steps : RunIsSteps
 unfolding RunIsSteps ranOf
-run-is-steps image stream answers straps program slice pause n =
-    let f = d image stream answers straps program slice pause n in
-    let w = atPowerUp straps program slice pause image in
-    let k = as-answers (samples stream) w (powered straps program slice pause image (f .size)) (f .volts) in
-    rw (z image stream answers straps program slice pause n, end image stream answers straps program slice pause n, k, start image stream answers straps program slice pause n)
+run-is-steps image stream answers part straps program slice pause n =
+    let f = d image stream answers part straps program slice pause n in
+    let w = atPowerUp part straps program slice pause image in
+    let k = as-answers (samples stream) w (powered part straps program slice pause image (f .size)) (f .volts) in
+    rw (z image stream answers part straps program slice pause n, end image stream answers part straps program slice pause n, k, start image stream answers part straps program slice pause n)

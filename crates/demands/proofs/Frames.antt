@@ -1,5 +1,5 @@
 -- What a frame does, from its samples: demand 2. Assumes nothing.
-use Prim.Native.Nat.{ℕ, suc, _+_, _*_, _%_, _≤_, _<_}
+use Prim.Native.Nat.{ℕ, suc, _+_, _-_, _*_, _/_, _%_, _≤_, _<_}
 use mathlib.Core.Path.{_≡_, _∙_, sym, refl, ap}
 use mathlib.Core.Bool.{Bool, true, false, cond, _&&_, _||_}
 use mathlib.Core.List.{List, [], _∷_, _++_}
@@ -14,20 +14,22 @@ use Rattle.basics.proofs.Table.{at}
 use Rattle.units.specs.declared.Times.{Times}
 use Rattle.record.specs.declared.Frame.{Frame}
 use Rattle.record.specs.declared.Device.{Device}
-use Rattle.record.specs.Record.{frame, idle, isRead, isWrite}
+use Rattle.record.specs.Record.{isLpc, frame, idle, isRead, isWrite}
 use Rattle.record.specs.Sample.{lines, frameLine, isReset}
 use Rattle.part.specs.Fresh.{freshOf}
 use Rattle.bus.specs.declared.Asked.{Asked}
 use Rattle.bus.specs.declared.Asked.the-variants.{Nothing as Silent, Read, Write}
-use Rattle.bus.specs.Frames.{begun, shifted, headed, readOn, writeOn, nextOf, frameClock, askedOf, drivenOf}
+use Rattle.bus.specs.Frames.{begun, shifted, isChosen, readOn, writeOn, nextOf, frameClock, askedOf, drivenOf}
+use Rattle.bus.proofs.Heads as heads
 use Rattle.bus.proofs.Laws.{last-nibble, acts-on-12}
 use Rattle.access.specs.Read.{isArray, arrayAddress, valueOf}
 use Rattle.access.specs.Write.{reachedOf}
 use Rattle.clock.specs.declared.DeviceClocked.{DeviceClocked}
 use Rattle.clock.specs.Clock.{withFrame, resetDevice, answeredTo, servedOf, afterController, deviceClock, imageAfter}
 use Rattle.clock.specs.Fold.{World, world, onward, answerTo, through, answersTo}
+use Rattle.clock.proofs.Fixed.{fixed-onward}
 use Rattle.clock.proofs.Broken as broken
-use Rattle.demands.specs.Demand2.{allHigh, noneResets, nibble, addressIn, dataIn, isFor, drivenByRead, drivenByWrite, driven, found, SameButForFrame, SameBehindTheBus, unheard}
+use Rattle.demands.specs.Demand2.{allHigh, noneResets, nibble, sevenIn, addressIn, dataIn, isFor, drivenByRead, drivenByWrite, driven, found, SameButForFrame, SameBehindTheBus, unheard, isReading}
 use Rattle.demands.specs.Demand2.{BrokenOffGivesNothing, WriteActs, FrameDrives, NothingDriven}
 
 -- of samples with the frame line high the first, and the others
@@ -49,6 +51,11 @@ through-append : (ss ts : List ℕ) (w : World) → through (ss ++ ts) w ≡ thr
 through-append [] ts w = refl
 through-append (s ∷ ss) ts w = through-append ss ts (onward w s)
 
+-- the part stays
+part-through : (ss : List ℕ) (w : World) → through ss w .device .part ≡ w .device .part
+part-through [] w = refl
+part-through (s ∷ ss) w = part-through ss (onward w s) ∙ fixed-onward w s .part
+
 -- a frame asks nothing before its clock 12
 early-silent : (f : Frame) → f .clock ≤ 11 → askedOf f ≡ Silent
 unfolding askedOf
@@ -60,17 +67,19 @@ early-silent f h = pick (ask (isRead f)) (ask (isWrite f))
     pick (no a) (no b) = rw (a, b)
 
 -- a frame that has begun is at its clock 1, and asks nothing
-begun-clock : (n : ℕ) → begun n .clock ≤ 1
+begun-clock : (part n : ℕ) → begun part n .clock ≤ 1
 unfolding begun
-begun-clock n = pick (ask (eqb n 13)) (ask (eqb n 14))
+begun-clock part n = pick (ask (isLpc part)) (ask (eqb n 0)) (ask (eqb n 13)) (ask (eqb n 14))
   where
-    pick : Answer (eqb n 13) → Answer (eqb n 14) → begun n .clock ≤ 1
-    pick (yes a) b = rw a (omega arith)
-    pick (no a) (yes b) = rw (a, b) (omega arith)
-    pick (no a) (no b) = rw (a, b) (omega arith)
+    pick : Answer (isLpc part) → Answer (eqb n 0) → Answer (eqb n 13) → Answer (eqb n 14) → begun part n .clock ≤ 1
+    pick (yes l) (yes z) a b = rw (l, z) (omega arith)
+    pick (yes l) (no z) a b = rw (l, z) (omega arith)
+    pick (no l) z (yes a) b = rw (l, a) (omega arith)
+    pick (no l) z (no a) (yes b) = rw (l, a, b) (omega arith)
+    pick (no l) z (no a) (no b) = rw (l, a, b) (omega arith)
 
-begun-silent : (n : ℕ) → askedOf (begun n) ≡ Silent
-begun-silent n = let h = begun-clock n in early-silent (begun n) (omega arith)
+begun-silent : (part n : ℕ) → askedOf (begun part n) ≡ Silent
+begun-silent part n = let h = begun-clock part n in early-silent (begun part n) (omega arith)
 
 driven-idle : drivenOf idle ≡ 0
 unfolding drivenOf
@@ -96,13 +105,13 @@ module _ (w : World) (s : ℕ) where
   silently r a = rw (r, a)
 
   -- a low frame line begins a frame
-  begins : frameLine s ≡ 0 → onward w s .device .frame ≡ cond (isReset s) idle (begun (lines s))
+  begins : frameLine s ≡ 0 → onward w s .device .frame ≡ cond (isReset s) idle (begun (w .device .part) (lines s))
   unfolding onward deviceClock servedOf resetDevice frameClock
   begins e = pick (ask (isReset s))
     where
-      pick : Answer (isReset s) → onward w s .device .frame ≡ cond (isReset s) idle (begun (lines s))
+      pick : Answer (isReset s) → onward w s .device .frame ≡ cond (isReset s) idle (begun (w .device .part) (lines s))
       pick (yes r) = rw r
-      pick (no r) = rw (r, e, begun-silent (lines s))
+      pick (no r) = rw (r, e, begun-silent (w .device .part) (lines s))
 
   -- an idle bus stays idle where it is high
   rests-once : frameLine s ≡ 1 → w .device .frame ≡ idle → onward w s .device .frame ≡ idle
@@ -134,29 +143,29 @@ at-rest : (w : World) (s : ℕ) (ss : List ℕ)
     → getD (answersTo (s ∷ ss) w) (length ss) 0 ≡ 0
 at-rest w s ss e i = last-answer s ss w ∙ ap drivenOf (rests ss (onward w s) e i) ∙ driven-idle
 
-fresh-idle : (straps : ℕ) (ts : Times) → freshOf straps ts .frame ≡ idle
+fresh-idle : (part straps : ℕ) (ts : Times) → freshOf part straps ts .frame ≡ idle
 unfolding freshOf
-fresh-idle straps ts = refl
+fresh-idle part straps ts = refl
 
 pub nothing-driven : NothingDriven
 unfolding NothingDriven
-nothing-driven d straps ts image first others e = (
+nothing-driven d part straps ts image first others e = (
   λ r. at-rest (world d image) first others e (reset-idle (world d image) first r),
   λ l.
-      at-rest (world (freshOf straps ts) image) first others e (rests-once (world (freshOf straps ts) image) first l (fresh-idle straps ts)),
+      at-rest (world (freshOf part straps ts) image) first others e (rests-once (world (freshOf part straps ts) image) first l (fresh-idle part straps ts)),
 )
 
 -- where a frame is broken off
-breaks : (first : ℕ) (others : List ℕ) (last : ℕ)
+breaks : (part first : ℕ) (others : List ℕ) (last : ℕ)
     → frameLine first ≡ 0
     → allHigh others ≡ true
-    → eqb (lines first) 13 || leb (length others) 10 ≡ true
+    → isReading part (first ∷ others) || leb (length others) 10 ≡ true
     → frameLine last ≡ 0
-    → broken.BrokenOff (first ∷ (others ++ (last ∷ [])))
-breaks first others last f h n l = pick (ask (eqb (lines first) 13))
+    → broken.BrokenOff part (first ∷ (others ++ (last ∷ [])))
+breaks part first others last f h n l = pick (ask (isReading part (first ∷ others)))
   where
-    pick : Answer (eqb (lines first) 13) → broken.BrokenOff (first ∷ (others ++ (last ∷ [])))
-    pick (yes a) = broken.reading first others last f (eqb-true (lines first) 13 a) (highs others h) l
+    pick : Answer (isReading part (first ∷ others)) → broken.BrokenOff part (first ∷ (others ++ (last ∷ [])))
+    pick (yes a) = broken.reading first others last f a (highs others h) l
     pick (no a) = broken.early first others last f (highs others h) (leb-true (length others) 10 (rw a at n)) l
 
 -- where no byte is written, all is as with the bus idle
@@ -164,6 +173,7 @@ pub unwritten : (ss : List ℕ) (w : World) → broken.never broken.writes ss w 
 unfolding broken.raised
 unwritten ss w n = let p = broken.unheard ss w n in (
   (
+    ap (λ (v : World). v .device .part) p,
     ap (λ (v : World). v .device .straps) p,
     ap (λ (v : World). v .device .locks) p,
     ap (λ (v : World). v .device .times) p,
@@ -177,8 +187,10 @@ unfolding BrokenOffGivesNothing
 broken-off d image first others last f h n l =
     let ss = first ∷ (others ++ (last ∷ [])) in
     let w = through (first ∷ others) (world d image) in (
-      unwritten ss (world d image) (broken.unwritten ss (world d image) (breaks first others last f h n l)),
-      ap (λ (v : World). v .device .frame) (through-append (first ∷ others) (last ∷ []) (world d image)) ∙ begins w last l,
+      unwritten ss (world d image) (broken.unwritten ss (world d image) (breaks (d .part) first others last f h n l)),
+      ap (λ (v : World). v .device .frame) (through-append (first ∷ others) (last ∷ []) (world d image))
+          ∙ begins w last l
+          ∙ ap (λ (k : ℕ). cond (isReset last) idle (begun k (lines last))) (part-through (first ∷ others) (world d image)),
     )
 
 -- samples that neither reset nor begin a frame
@@ -221,19 +233,15 @@ calm-back : (ss ts : List ℕ) → Calm (ss ++ ts) → Calm ts
 calm-back [] ts k = k
 calm-back (s ∷ ss) ts (calm _ _ h r k) = calm-back ss ts k
 
--- what a write does leaves the frame and the straps, and does not see the frame
+-- what a write does leaves the frame, and does not see it
 module _ (d : Device) (sample a byte : ℕ) where
   reached-frame : reachedOf d sample a byte .device .frame ≡ d .frame
   unfolding reachedOf
   reached-frame = elim (ask (isArray a)) [ yes i ↦ rw i | no i ↦ rw i ]
 
-  reached-straps : reachedOf d sample a byte .device .straps ≡ d .straps
-  unfolding reachedOf
-  reached-straps = elim (ask (isArray a)) [ yes i ↦ rw i | no i ↦ rw i ]
-
   reached-same : (f : Frame) → SameButForFrame (reachedOf (withFrame d f) sample a byte .device) (reachedOf d sample a byte .device)
   unfolding reachedOf
-  reached-same f = elim (ask (isArray a)) [ yes i ↦ rw i (refl, refl, refl, refl) | no i ↦ rw i (refl, refl, refl, refl) ]
+  reached-same f = elim (ask (isArray a)) [ yes i ↦ rw i (refl, refl, refl, refl, refl) | no i ↦ rw i (refl, refl, refl, refl, refl) ]
 
 -- the same kind of frame at the same clock
 abbrev alike : Frame → Frame → Type 0
@@ -245,11 +253,6 @@ answered-alike (Read address) d image s = (refl, refl)
 answered-alike (Write address byte) d image s =
     let e = reached-frame d s address byte in (ap (λ (f : Frame). f .kind) e, ap (λ (f : Frame). f .clock) e)
 
-answered-straps : (a : Asked) (d : Device) (image : List ℕ) (s : ℕ) → answeredTo a d image s .device .straps ≡ d .straps
-answered-straps Silent d image s = refl
-answered-straps (Read address) d image s = refl
-answered-straps (Write address byte) d image s = reached-straps d s address byte
-
 module _ (w : World) (s : ℕ) where
   framed-alike : isReset s ≡ false → alike (onward w s .device .frame) (broken.framed w s)
   unfolding onward deviceClock servedOf
@@ -257,76 +260,70 @@ module _ (w : World) (s : ℕ) where
       rw r
       (answered-alike (askedOf (broken.framed w s)) (withFrame (afterController (w .device)) (broken.framed w s)) _ s)
 
-  straps-kept : isReset s ≡ false → onward w s .device .straps ≡ w .device .straps
-  unfolding onward deviceClock servedOf
-  straps-kept r =
-      rw r
-      (answered-straps (askedOf (broken.framed w s)) (withFrame (afterController (w .device)) (broken.framed w s)) _ s)
-
 -- the bus alone: frames from sample to sample
-abbrev folded : ℕ → Frame → List ℕ → Frame
-folded straps f [] = f
-folded straps f (s ∷ ss) = folded straps (frameClock straps f s) ss
+abbrev folded : ℕ → ℕ → Frame → List ℕ → Frame
+folded part straps f [] = f
+folded part straps f (s ∷ ss) = folded part straps (frameClock part straps f s) ss
 
 -- until its clock 11 a frame asks nothing, and is what the bus alone makes of it
-alone : (ss : List ℕ) (straps : ℕ) (f : Frame) (w : World)
+alone : (ss : List ℕ) (part straps : ℕ) (f : Frame) (w : World)
     → Calm ss
     → f .clock + length ss ≤ 11
+    → w .device .part ≡ part
     → w .device .straps ≡ straps
     → w .device .frame ≡ f
-    → through ss w .device .frame ≡ folded straps f ss
-alone [] straps f w k h es ef = ef
-alone (s ∷ ss) straps f w (calm _ _ l r k) h es ef =
-    let q = broken.follows straps f s l in
-    let e : broken.framed w s ≡ frameClock straps f s = rw (es, ef) in
-    let c : frameClock straps f s .clock + length ss ≤ 11 = omega arith in
-    let a = early-silent (frameClock straps f s) (omega arith) in
-    alone ss straps (frameClock straps f s) (onward w s) k c (straps-kept w s r ∙ es) (silently w s r (ap askedOf e ∙ a) ∙ e)
+    → through ss w .device .frame ≡ folded part straps f ss
+alone [] part straps f w k h ep es ef = ef
+alone (s ∷ ss) part straps f w (calm _ _ l r k) h ep es ef =
+    let q = broken.follows part straps f s l in
+    let e : broken.framed w s ≡ frameClock part straps f s = rw (ep, es, ef) in
+    let c : frameClock part straps f s .clock + length ss ≤ 11 = omega arith in
+    let a = early-silent (frameClock part straps f s) (omega arith) in
+    let x = fixed-onward w s in
+    alone ss part straps (frameClock part straps f s) (onward w s) k c (x .part ∙ ep) (x .straps ∙ es) (silently w s r (ap askedOf e ∙ a) ∙ e)
 
-rests-alone : (ss : List ℕ) (straps : ℕ) → Calm ss → folded straps idle ss ≡ idle
+rests-alone : (ss : List ℕ) (part straps : ℕ) → Calm ss → folded part straps idle ss ≡ idle
 unfolding frameClock
-rests-alone [] straps k = refl
-rests-alone (s ∷ ss) straps (calm _ _ l r k) = rw l (rests-alone ss straps k)
+rests-alone [] part straps k = refl
+rests-alone (s ∷ ss) part straps (calm _ _ l r k) = rw l (rests-alone ss part straps k)
 
--- the head of a frame of some kind: straps, address, size
-abbrev addressOver : ℕ → List ℕ → ℕ
-addressOver a [] = a
-addressOver a (s ∷ ss) = addressOver (shifted a (lines s)) ss
+-- the nibbles of an address, of a frame whose direction is known
+abbrev addressOver : ℕ → ℕ → List ℕ → ℕ
+addressOver part a [] = a
+addressOver part a (s ∷ ss) = addressOver part (shifted part a (lines s)) ss
 
-module _ (straps kind : ℕ) (there : eqb kind 0 ≡ false) where
-  strap : (s : ℕ) → frameLine s ≡ 1 → frameClock straps (frame kind 1 0 0) s ≡ cond (eqb (lines s) straps) (frame kind 2 0 0) idle
-  unfolding frameClock nextOf headed
-  strap s l = rw (l, there)
-
-  address : (ss : List ℕ) (c a : ℕ) → Calm ss → 2 ≤ c → c + length ss ≤ 9 → folded straps (frame kind c 0 a) ss ≡ frame kind (c + length ss) 0 (addressOver a ss)
-  unfolding frameClock nextOf headed
-  address [] c a k l h = rw add-zero
-  address (s ∷ ss) c a (calm _ _ e r k) l h =
-      let x : c + suc (length ss) ≡ c + 1 + length ss = omega arith in
-      let z : (c ≡ 1 → ⊥) = λ e. omega arith in
-      rw (e, there, lt-ltb c 10 (omega arith), ne-eqb c 1 z, lt-ltb c 9 (omega arith), x)
-      (address ss (c + 1) (shifted a (lines s)) k (omega arith) (omega arith))
-
-  size : (a s : ℕ) → frameLine s ≡ 1 → frameClock straps (frame kind 9 0 a) s ≡ cond (eqb (lines s) 0) (frame kind 10 0 a) idle
-  unfolding frameClock nextOf headed
-  size a s l = rw (l, there)
+address : (part straps kind : ℕ) → heads.Kind kind → (ss : List ℕ) (c a : ℕ)
+    → Calm ss
+    → 2 ≤ c
+    → c + length ss ≤ 9
+    → folded part straps (frame kind c 0 a) ss ≡ frame kind (c + length ss) 0 (addressOver part a ss)
+address part straps kind q [] c a k l h = rw add-zero
+address part straps kind q (s ∷ ss) c a (calm _ _ e r k) l h =
+    let x : c + suc (length ss) ≡ c + 1 + length ss = omega arith in
+    rw (heads.nibble-in part straps s (rw e) kind q c a l (omega arith), x)
+    (address part straps kind q ss (c + 1) (shifted part a (lines s)) k (omega arith) (omega arith))
 
 -- a nibble is put behind an address that has room for it
-put : (x s m : ℕ) → x < m → m ≤ 0x1000000 → (shifted x (lines s) ≡ x * 16 + lines s) × (x * 16 + lines s < m * 16)
+put : (part x s m : ℕ) → x < m → m ≤ 0x1000000 → (shifted part x (lines s) ≡ x * 16 + lines s) × (x * 16 + lines s < m * 16)
 unfolding shifted
-put x s m h l = (omega arith, omega arith)
+put part x s m h l =
+    elim (ask (isLpc part)) [ yes p ↦ rw p (omega arith, omega arith) | no p ↦ rw p (omega arith, omega arith) ]
 
-address-of : (a b c d e f g : ℕ)
-    → addressOver 0 (a ∷ b ∷ c ∷ d ∷ e ∷ f ∷ g ∷ [])
+put-last : (part x s : ℕ) → isLpc part ≡ true → x < 0x10000000 → shifted part x (lines s) ≡ x * 16 + lines s
+unfolding shifted
+put-last part x s p h = rw p (omega arith)
+
+address-of : (part a b c d e f g : ℕ)
+    → addressOver part 0 (a ∷ b ∷ c ∷ d ∷ e ∷ f ∷ g ∷ [])
     ≡ lines a * 0x1000000 + lines b * 0x100000 + lines c * 0x10000 + lines d * 0x1000 + lines e * 0x100 + lines f * 0x10 + lines g
-address-of a b c d e f g =
-    let p = put 0 a 1 (omega arith) (omega arith) .0 ∙ zero-add (lines a) in
-    let q = put (lines a) b 0x10 (omega arith) (omega arith) in
-    let r = put (lines a * 16 + lines b) c 0x100 (q .1) (omega arith) in
-    let s = put ((lines a * 16 + lines b) * 16 + lines c) d 0x1000 (r .1) (omega arith) in
-    let t = put (((lines a * 16 + lines b) * 16 + lines c) * 16 + lines d) e 0x10000 (s .1) (omega arith) in
-    let u = put ((((lines a * 16 + lines b) * 16 + lines c) * 16 + lines d) * 16 + lines e) f 0x100000 (t .1) (omega arith) in
-    let v = put (((((lines a * 16 + lines b) * 16 + lines c) * 16 + lines d) * 16 + lines e) * 16 + lines f) g 0x1000000 (u .1) (omega arith) in
+address-of part a b c d e f g =
+    let p = put part 0 a 1 (omega arith) (omega arith) .0 ∙ zero-add (lines a) in
+    let q = put part (lines a) b 0x10 (omega arith) (omega arith) in
+    let r = put part (lines a * 16 + lines b) c 0x100 (q .1) (omega arith) in
+    let s = put part ((lines a * 16 + lines b) * 16 + lines c) d 0x1000 (r .1) (omega arith) in
+    let t = put part (((lines a * 16 + lines b) * 16 + lines c) * 16 + lines d) e 0x10000 (s .1) (omega arith) in
+    let u = put part ((((lines a * 16 + lines b) * 16 + lines c) * 16 + lines d) * 16 + lines e) f 0x100000 (t .1) (omega arith) in
+    let v = put part (((((lines a * 16 + lines b) * 16 + lines c) * 16 + lines d) * 16 + lines e) * 16 + lines f) g 0x1000000 (u .1) (omega arith) in
     rw (p, q .0, r .0, s .0, t .0, u .0, v .0) (sum (lines a) (lines b) (lines c) (lines d) (lines e) (lines f) (lines g))
   where
     sum : (a b c d e f g : ℕ)
@@ -352,11 +349,11 @@ head (s ∷ a ∷ b ∷ c ∷ d ∷ e ∷ f ∷ g ∷ []) = short (s ∷ a ∷ b
 head (s ∷ a ∷ b ∷ c ∷ d ∷ e ∷ f ∷ g ∷ t ∷ rest) = long s a b c d e f g t rest
 
 -- its clock is at most the number of its samples
-folded-clock : (ss : List ℕ) (straps : ℕ) (f : Frame) → Calm ss → folded straps f ss .clock ≤ f .clock + length ss
-folded-clock [] straps f k = omega arith
-folded-clock (s ∷ ss) straps f (calm _ _ l r k) =
-    let q = broken.follows straps f s l in
-    let p = folded-clock ss straps (frameClock straps f s) k in
+folded-clock : (ss : List ℕ) (part straps : ℕ) (f : Frame) → Calm ss → folded part straps f ss .clock ≤ f .clock + length ss
+folded-clock [] part straps f k = omega arith
+folded-clock (s ∷ ss) part straps f (calm _ _ l r k) =
+    let q = broken.follows part straps f s l in
+    let p = folded-clock ss part straps (frameClock part straps f s) k in
     omega arith
 
 -- a frame from its first sample on, until its clock 11
@@ -365,11 +362,12 @@ from-first : (d : Device) (image : List ℕ) (first : ℕ) (ss : List ℕ)
     → isReset first ≡ false
     → Calm ss
     → length ss ≤ 10
-    → through (first ∷ ss) (world d image) .device .frame ≡ folded (d .straps) (begun (lines first)) ss
+    → through (first ∷ ss) (world d image) .device .frame ≡ folded (d .part) (d .straps) (begun (d .part) (lines first)) ss
 from-first d image first ss low up k h =
-    let c = begun-clock (lines first) in
-    let b : onward (world d image) first .device .frame ≡ begun (lines first) = begins (world d image) first low ∙ rw up in
-    alone ss (d .straps) (begun (lines first)) (onward (world d image) first) k (omega arith) (straps-kept (world d image) first up) b
+    let c = begun-clock (d .part) (lines first) in
+    let b : onward (world d image) first .device .frame ≡ begun (d .part) (lines first) = begins (world d image) first low ∙ rw up in
+    let x = fixed-onward (world d image) first in
+    alone ss (d .part) (d .straps) (begun (d .part) (lines first)) (onward (world d image) first) k (omega arith) (x .part) (x .straps) b
 
 -- until its clock 12 a frame drives nothing
 early-undriven : (f : Frame) → f .clock ≤ 12 → drivenOf f ≡ 0
@@ -382,10 +380,10 @@ early-undriven f h = pick (ask (isRead f)) (ask (isWrite f))
     pick (no a) (no b) = rw (a, b)
 
 -- and so it is said
-nothing-yet : (straps : ℕ) (ss : List ℕ) (value : ℕ) → length ss ≤ 12 → driven straps ss value ≡ 0
-nothing-yet straps ss value h = pick (ask (isFor 13 straps ss)) (ask (isFor 14 straps ss))
+nothing-yet : (part straps : ℕ) (ss : List ℕ) (value : ℕ) → length ss ≤ 12 → driven part straps ss value ≡ 0
+nothing-yet part straps ss value h = pick (ask (isFor part straps 1 ss)) (ask (isFor part straps 2 ss))
   where
-    pick : Answer (isFor 13 straps ss) → Answer (isFor 14 straps ss) → driven straps ss value ≡ 0
+    pick : Answer (isFor part straps 1 ss) → Answer (isFor part straps 2 ss) → driven part straps ss value ≡ 0
     pick (yes a) b = rw (a, lt-ltb (length ss) 13 (omega arith))
     pick (no a) (yes b) = rw (a, b, ne-eqb (length ss) 15 (λ e. omega arith), ne-eqb (length ss) 16 (λ e. omega arith))
     pick (no a) (no b) = rw (a, b)
@@ -394,11 +392,11 @@ nothing-yet straps ss value h = pick (ask (isFor 13 straps ss)) (ask (isFor 14 s
 abbrev readTo : ℕ → ℕ → ℕ → Frame
 readTo c byte a = cond (ltb c 19) (frame 1 c byte a) idle
 
-read-clock : (straps c byte a s : ℕ) → frameLine s ≡ 1 → 10 ≤ c → frameClock straps (readTo c byte a) s ≡ readTo (c + 1) byte a
+read-clock : (part straps c byte a s : ℕ) → frameLine s ≡ 1 → 10 ≤ c → frameClock part straps (readTo c byte a) s ≡ readTo (c + 1) byte a
 unfolding frameClock nextOf readOn
-read-clock straps c byte a s l h = pick (ask (ltb c 18)) (ask (ltb c 19))
+read-clock part straps c byte a s l h = pick (ask (ltb c 18)) (ask (ltb c 19))
   where
-    pick : Answer (ltb c 18) → Answer (ltb c 19) → frameClock straps (readTo c byte a) s ≡ readTo (c + 1) byte a
+    pick : Answer (ltb c 18) → Answer (ltb c 19) → frameClock part straps (readTo c byte a) s ≡ readTo (c + 1) byte a
     pick (yes x) y =
         let i = ltb-true c 18 x in
         rw (l, lt-ltb c 19 (omega arith), le-ltb c 10 h, x, lt-ltb (c + 1) 19 (omega arith))
@@ -426,7 +424,7 @@ reading : (ss : List ℕ) (w : World) (c byte a : ℕ)
 reading [] w c byte a k h z e = rw add-zero e
 reading (s ∷ ss) w c byte a (calm _ _ l r k) h z e =
     let x : c + suc (length ss) ≡ c + 1 + length ss = omega arith in
-    let p : broken.framed w s ≡ readTo (c + 1) byte a = rw e (read-clock (w .device .straps) c byte a s l h) in
+    let p : broken.framed w s ≡ readTo (c + 1) byte a = rw e (read-clock (w .device .part) (w .device .straps) c byte a s l h) in
     let q = read-silent (c + 1) byte a (z (c + 1) (omega arith) (omega arith)) in
     rw x
     (reading ss (onward w s) (c + 1) byte a k (omega arith) (λ n i j. z n (omega arith) (omega arith)) (silently w s r (ap askedOf p ∙ q) ∙ p))
@@ -453,7 +451,7 @@ finds : (w : World) (s a : ℕ)
     ≡ frame 1 15 (valueOf (afterController (w .device)) s a (getD (imageAfter (w .device) (w .image) s) (arrayAddress a) 0)) a
 unfolding onward deviceClock servedOf imageAfter valueOf askedOf
 finds w s a l r e =
-    let p : broken.framed w s ≡ frame 1 15 0 a = rw e (read-clock (w .device .straps) 14 0 a s l (omega arith)) in
+    let p : broken.framed w s ≡ frame 1 15 0 a = rw e (read-clock (w .device .part) (w .device .straps) 14 0 a s l (omega arith)) in
     rw (r, p)
 
 -- five samples and more, or fewer
@@ -515,12 +513,12 @@ writing-alike : (n : ℕ) (f g : Frame) → alike f g → Writing n g → Writin
 writing-alike n f g p (on k c m) = on (p .0 ∙ k) (p .1 ∙ c) m
 writing-alike n f g p (over k m) = over (p .0 ∙ k) m
 
-writing-clock : (straps n : ℕ) (f : Frame) (s : ℕ) → frameLine s ≡ 1 → 10 ≤ n → Writing n f → Writing (n + 1) (frameClock straps f s)
+writing-clock : (part straps n : ℕ) (f : Frame) (s : ℕ) → frameLine s ≡ 1 → 10 ≤ n → Writing n f → Writing (n + 1) (frameClock part straps f s)
 unfolding frameClock nextOf writeOn
-writing-clock straps n f s l h (over k m) = rw (l, k) (over refl (omega arith))
-writing-clock straps n f s l h (on k c m) = pick (ask (eqb n 10)) (ask (eqb n 11)) (ask (ltb n 16))
+writing-clock part straps n f s l h (over k m) = rw (l, k) (over refl (omega arith))
+writing-clock part straps n f s l h (on k c m) = pick (ask (eqb n 10)) (ask (eqb n 11)) (ask (ltb n 16))
   where
-    pick : Answer (eqb n 10) → Answer (eqb n 11) → Answer (ltb n 16) → Writing (n + 1) (frameClock straps f s)
+    pick : Answer (eqb n 10) → Answer (eqb n 11) → Answer (ltb n 16) → Writing (n + 1) (frameClock part straps f s)
     pick (yes x) y z =
         let i = eqb-true n 10 x in
         rw (l, k, c, le-ltb n 10 h, x) (on refl (omega arith) (omega arith))
@@ -538,7 +536,7 @@ writing : (ss : List ℕ) (w : World) (n : ℕ) → Calm ss → 10 ≤ n → Wri
 writing [] w n k h q = rw add-zero q
 writing (s ∷ ss) w n (calm _ _ l r k) h q =
     let x : n + suc (length ss) ≡ n + 1 + length ss = omega arith in
-    let p = writing-clock (w .device .straps) n (w .device .frame) s l h q in
+    let p = writing-clock (w .device .part) (w .device .straps) n (w .device .frame) s l h q in
     rw x (writing ss (onward w s) (n + 1) k (omega arith) (writing-alike (n + 1) _ _ (framed-alike w s r) p))
 
 writing-drives : (n : ℕ) (f : Frame) → Writing n f → drivenOf f ≡ drivenByWrite n
@@ -546,34 +544,16 @@ unfolding drivenOf
 writing-drives n f (on k c m) = rw (k, c)
 writing-drives n f (over k m) = rw (k, ne-eqb n 15 (λ e. omega arith), ne-eqb n 16 (λ e. omega arith))
 
--- the first nibble says the kind
-begun-read : (n : ℕ) → eqb n 13 ≡ true → begun n ≡ frame 1 1 0 0
-unfolding begun
-begun-read n e = rw e
-
-pub begun-write : (n : ℕ) → eqb n 14 ≡ true → begun n ≡ frame 2 1 0 0
-unfolding begun
-begun-write n e = rw (eqb-true n 14 e)
-
-begun-none : (n : ℕ) → eqb n 13 ≡ false → eqb n 14 ≡ false → begun n ≡ idle
-unfolding begun
-begun-none n x y = rw (x, y)
-
--- a frame is for this part by its first nibble and by its head
-pub is-for : (kind straps : ℕ) (ss : List ℕ)
-    → isFor kind straps ss ≡ (eqb (nibble 1 ss) kind && (eqb (nibble 2 ss) straps && eqb (nibble 10 ss) 0))
-unfolding all
-is-for kind straps ss = refl
-
 and-false : (t : Bool) → t && false ≡ false
 and-false true = refl
 and-false false = refl
 
-and-true : (t : Bool) → t && true ≡ t
-and-true true = refl
-and-true false = refl
+-- a choice by two tests, one behind the other
+chosen : (u v : Bool) (x y : Frame) → cond (cond u v false) x y ≡ cond (u && v) x y
+chosen true v x y = refl
+chosen false v x y = refl
 
--- a frame with its head, and the frame after its clock 10
+-- a frame with its head, and the frame after its clock 10: a read or a write for this part, or none
 module _ (d : Device) (image : List ℕ) (first s a b c e f g h t : ℕ) where
   abbrev seven : List ℕ
   seven = a ∷ b ∷ c ∷ e ∷ f ∷ g ∷ h ∷ []
@@ -581,81 +561,144 @@ module _ (d : Device) (image : List ℕ) (first s a b c e f g h t : ℕ) where
   abbrev nine : List ℕ
   nine = s ∷ (seven ++ (t ∷ []))
 
+  abbrev headed : List ℕ
+  headed = first ∷ nine
+
   abbrev ten : World
-  ten = through (first ∷ nine) (world d image)
+  ten = through headed (world d image)
 
-  abbrev isOurs : Bool
-  isOurs = eqb (lines s) (d .straps) && eqb (lines t) 0
+  -- it is for this part
+  abbrev ours : ℕ → Bool
+  ours kind = isFor (d .part) (d .straps) kind headed
 
-  module _ (low : frameLine first ≡ 0) (up : isReset first ≡ false) (k : Calm nine) where
-    at-ten : (f : Frame) → begun (lines first) ≡ f → ten .device .frame ≡ folded (d .straps) f nine
-    at-ten f x = from-first d image first nine low up k (omega arith) ∙ ap (λ (f : Frame). folded (d .straps) f nine) x
+  abbrev to : ℕ
+  to = addressIn (d .part) headed
 
-    ten-none : begun (lines first) ≡ idle → ten .device .frame ≡ idle
-    ten-none x = at-ten idle x ∙ rests-alone nine (d .straps) k
+  -- the frame that the bus alone makes of its clocks 2 to 10
+  abbrev after : Frame → Frame
+  after one = folded (d .part) (d .straps) one nine
 
-    pub ten-kind : (kind : ℕ)
-        → eqb kind 0 ≡ false
-        → begun (lines first) ≡ frame kind 1 0 0
-        → ten .device .frame ≡ cond isOurs (frame kind 10 0 (addressIn (first ∷ nine))) idle
-    ten-kind kind there x = at-ten (frame kind 1 0 0) x ∙ pick (ask (eqb (lines s) (d .straps)))
-      where
-        q : Calm (seven ++ (t ∷ []))
-        q = calm-others s (seven ++ (t ∷ [])) k
+  -- on LPC: the address, and the two tests of it
+  abbrev eight : ℕ
+  eight = sevenIn headed * 0x10 + lines t
 
-        l : frameClock (d .straps) (frame kind 1 0 0) s ≡ cond (eqb (lines s) (d .straps)) (frame kind 2 0 0) idle
-        l = strap (d .straps) kind there s (calm-line s (seven ++ (t ∷ [])) k)
+  abbrev high : Bool
+  high = eqb (eight / 0x800000) 0x1FF
 
-        m : folded (d .straps) (frame kind 2 0 0) seven ≡ frame kind 9 0 (addressOver 0 seven)
-        m = address (d .straps) kind there seven 2 0 (calm-front seven (t ∷ []) q) (omega arith) (omega arith)
+  abbrev pins : Bool
+  pins = eqb (eight / 0x100000 % 4) (3 - d .straps)
 
-        n : frameClock (d .straps) (frame kind 9 0 (addressOver 0 seven)) t ≡ cond (eqb (lines t) 0) (frame kind 10 0 (addressOver 0 seven)) idle
-        n = size (d .straps) kind there (addressOver 0 seven) t (calm-line t [] (calm-back seven (t ∷ []) q))
+  abbrev Ten : Frame → Type 0
+  Ten x = x ≡ cond (ours 1) (frame 1 10 0 to) (cond (ours 2) (frame 2 10 0 to) idle)
 
-        pick : Answer (eqb (lines s) (d .straps)) → folded (d .straps) (frame kind 1 0 0) nine ≡ cond isOurs (frame kind 10 0 (addressIn (first ∷ nine))) idle
-        pick (no y) = rw (l, y) (rests-alone (seven ++ (t ∷ [])) (d .straps) q)
-        pick (yes y) = rw (l, y, m, n, address-of a b c e f g h)
+  module _ (k : Calm nine) where
+    q : Calm (seven ++ (t ∷ []))
+    q = calm-others s (seven ++ (t ∷ [])) k
 
-    -- and what it drives then
-    module _ (rest : List ℕ) (q : Calm rest) where
-      abbrev whole : List ℕ
-      whole = first ∷ (nine ++ rest)
+    second : eqb (frameLine s) 0 ≡ false
+    second = rw (calm-line s (seven ++ (t ∷ [])) k)
 
-      abbrev Drives : Type 0
-      Drives = drivenOf (through rest ten .device .frame) ≡ driven (d .straps) whole (found whole (world d image))
+    tenth : eqb (frameLine t) 0 ≡ false
+    tenth = rw (calm-line t [] (calm-back seven (t ∷ []) q))
 
-      undriven : isFor 13 (d .straps) whole ≡ false → isFor 14 (d .straps) whole ≡ false → ten .device .frame ≡ idle → Drives
-      undriven x y i = rw (x, y) (ap drivenOf (rests rest ten (calm-high rest q) i) ∙ driven-idle)
+    to-nine : (kind : ℕ) → heads.Kind kind
+        → folded (d .part) (d .straps) (frame kind 2 0 0) seven ≡ frame kind 9 0 (addressOver (d .part) 0 seven)
+    to-nine kind v = address (d .part) (d .straps) kind v seven 2 0 (calm-front seven (t ∷ []) q) (omega arith) (omega arith)
 
-      not-ours : isOurs ≡ false → ten .device .frame ≡ idle → Drives
-      not-ours z i = undriven (strange 13) (strange 14) i
+    idles-on : folded (d .part) (d .straps) idle (seven ++ (t ∷ [])) ≡ idle
+    idles-on = rests-alone (seven ++ (t ∷ [])) (d .part) (d .straps) q
+
+    -- FWH: a frame of a kind that its first nibble says
+    module _ (p : isLpc (d .part) ≡ false) where
+      fwh-kind : (kind : ℕ) → heads.Kind kind
+          → after (frame kind 1 0 0) ≡ cond (eqb (lines s) (d .straps) && eqb (lines t) 0) (frame kind 10 0 to) idle
+      fwh-kind kind v = pick (ask (eqb (lines s) (d .straps)))
         where
-          strange : (kind : ℕ) → isFor kind (d .straps) whole ≡ false
-          strange kind = is-for kind (d .straps) whole ∙ rw z (and-false (eqb (lines first) kind))
+          l : frameClock (d .part) (d .straps) (frame kind 1 0 0) s ≡ cond (eqb (lines s) (d .straps)) (frame kind 2 0 0) idle
+          l = heads.strap (d .part) (d .straps) s second kind v p
 
-      ours : isOurs ≡ true → (kind : ℕ) → isFor kind (d .straps) whole ≡ eqb (lines first) kind
-      ours z kind = is-for kind (d .straps) whole ∙ rw z (and-true (eqb (lines first) kind))
+          n : frameClock (d .part) (d .straps) (frame kind 9 0 (addressOver (d .part) 0 seven)) t ≡ cond (eqb (lines t) 0) (frame kind 10 0 (addressOver (d .part) 0 seven)) idle
+          n = heads.size (d .part) (d .straps) t tenth kind v p (addressOver (d .part) 0 seven)
 
-      drives : Drives
-      drives = pick (ask (eqb (lines first) 13)) (ask (eqb (lines first) 14)) (ask isOurs)
+          pick : Answer (eqb (lines s) (d .straps))
+              → after (frame kind 1 0 0) ≡ cond (eqb (lines s) (d .straps) && eqb (lines t) 0) (frame kind 10 0 to) idle
+          pick (no y) = rw (l, y) idles-on
+          pick (yes y) = rw (p, l, y, to-nine kind v, n, address-of (d .part) a b c e f g h)
+
+      fwh-ten : Ten (after (begun (d .part) (lines first)))
+      unfolding begun all
+      fwh-ten = pick (ask (eqb (lines first) 13)) (ask (eqb (lines first) 14))
         where
-          n : length whole ≡ 10 + length rest
-          n = omega arith
+          pick : Answer (eqb (lines first) 13) → Answer (eqb (lines first) 14) → Ten (after (begun (d .part) (lines first)))
+          pick (yes x) y = let i = eqb-true (lines first) 13 x in rw (p, i) (rw p at (fwh-kind 1 heads.reading))
+          pick (no x) (yes y) = let i = eqb-true (lines first) 14 y in rw (p, i) (rw p at (fwh-kind 2 heads.writing))
+          pick (no x) (no y) = rw (p, x, y) (rests-alone nine (d .part) (d .straps) k)
 
-          pick : Answer (eqb (lines first) 13) → Answer (eqb (lines first) 14) → Answer isOurs → Drives
-          pick (yes x) y z = read z (ten-kind 1 refl (begun-read (lines first) x))
-            where
-              read : Answer isOurs → ten .device .frame ≡ cond isOurs (frame 1 10 0 (addressIn whole)) idle → Drives
-              read (yes z) i = rw (ours z 13, x, n) (reads rest ten (addressIn whole) q (rw z at i))
-              read (no z) i = not-ours z (rw z at i)
-          pick (no x) (yes y) z = write z (ten-kind 2 refl (begun-write (lines first) y))
-            where
-              write : Answer isOurs → ten .device .frame ≡ cond isOurs (frame 2 10 0 (addressIn whole)) idle → Drives
-              write (yes z) i =
-                  rw (ours z 13, x, ours z 14, y, n) (writing-drives _ _ (writing rest ten 10 q (omega arith) (rw (i, z) (on refl refl (omega arith)))))
-              write (no z) i = not-ours z (rw z at i)
-          pick (no x) (no y) (yes z) = undriven (ours z 13 ∙ x) (ours z 14 ∙ y) (ten-none (begun-none (lines first) x y))
-          pick (no x) (no y) (no z) = not-ours z (ten-none (begun-none (lines first) x y))
+    -- LPC: the direction from clock 2 on, the address judged on clock 10
+    module _ (p : isLpc (d .part) ≡ true) where
+      lpc-address : shifted (d .part) (addressOver (d .part) 0 seven) (lines t) ≡ to
+      lpc-address =
+          let x = address-of (d .part) a b c e f g h in
+          rw (p, x) (put-last (d .part) (sevenIn headed) t p (omega arith))
+
+      lpc-kind : (kind : ℕ) → heads.Kind kind
+          → folded (d .part) (d .straps) (frame kind 2 0 0) (seven ++ (t ∷ [])) ≡ cond (isChosen (d .straps) to) (frame kind 10 0 to) idle
+      lpc-kind kind v =
+          let n = heads.last (d .part) (d .straps) t tenth kind v (addressOver (d .part) 0 seven) p in
+          rw (to-nine kind v, n, lpc-address)
+
+      lpc-ten : Ten (after (begun (d .part) (lines first)))
+      unfolding begun all isChosen
+      lpc-ten = pick (ask (eqb (lines first) 0)) (ask (eqb (lines s / 2) 2)) (ask (eqb (lines s / 2) 3))
+        where
+          l : frameClock (d .part) (d .straps) (frame 3 1 0 0) s ≡ cond (eqb (lines s / 2) 2) (frame 1 2 0 0) (cond (eqb (lines s / 2) 3) (frame 2 2 0 0) idle)
+          l = heads.cycle (d .part) (d .straps) s second p
+
+          pick : Answer (eqb (lines first) 0) → Answer (eqb (lines s / 2) 2) → Answer (eqb (lines s / 2) 3) → Ten (after (begun (d .part) (lines first)))
+          pick (no z) x y = rw (p, z) (rests-alone nine (d .part) (d .straps) k)
+          pick (yes z) (yes x) y = let i = eqb-true (lines s / 2) 2 x in rw (p, z, l, i) (rw p at (lpc-kind 1 heads.reading) ∙ chosen high pins (frame 1 10 0 eight) idle)
+          pick (yes z) (no x) (yes y) = let i = eqb-true (lines s / 2) 3 y in rw (p, z, l, i) (rw p at (lpc-kind 2 heads.writing) ∙ chosen high pins (frame 2 10 0 eight) idle)
+          pick (yes z) (no x) (no y) = rw (p, z, l, x, y) idles-on
+
+    module _ (low : frameLine first ≡ 0) (up : isReset first ≡ false) where
+      pub ten-frame : Ten (ten .device .frame)
+      ten-frame =
+          from-first d image first nine low up k (omega arith)
+          ∙ elim (ask (isLpc (d .part))) [ yes p ↦ lpc-ten p | no p ↦ fwh-ten p ]
+
+      -- no frame is both
+      not-both : ours 2 ≡ true → ours 1 ≡ false
+      unfolding all
+      not-both y = pick (ask (isLpc (d .part)))
+        where
+          pick : Answer (isLpc (d .part)) → ours 1 ≡ false
+          pick (yes p) =
+              let o : (eqb (lines first) 0 && (eqb (lines s / 2) 3 && (high && pins))) ≡ true = rw p at y in
+              let i = eqb-true (lines s / 2) 3 (and-left (eqb (lines s / 2) 3) (high && pins) (and-right (eqb (lines first) 0) (eqb (lines s / 2) 3 && (high && pins)) o)) in
+              rw (p, i) (and-false (eqb (lines first) 0))
+          pick (no p) =
+              let o : (eqb (lines first) 14 && (eqb (lines s) (d .straps) && eqb (lines t) 0)) ≡ true = rw p at y in
+              let i = eqb-true (lines first) 14 (and-left (eqb (lines first) 14) (eqb (lines s) (d .straps) && eqb (lines t) 0) o) in
+              rw (p, i)
+
+      pub ten-write : ours 2 ≡ true → ten .device .frame ≡ frame 2 10 0 to
+      ten-write y = ten-frame ∙ rw (not-both y, y)
+
+      -- and what it drives then
+      module _ (rest : List ℕ) (r : Calm rest) where
+        abbrev whole : List ℕ
+        whole = first ∷ (nine ++ rest)
+
+        drives : drivenOf (through rest ten .device .frame) ≡ driven (d .part) (d .straps) whole (found whole (world d image))
+        drives = pick (ask (ours 1)) (ask (ours 2))
+          where
+            n : length whole ≡ 10 + length rest
+            n = omega arith
+
+            pick : Answer (ours 1) → Answer (ours 2) → drivenOf (through rest ten .device .frame) ≡ driven (d .part) (d .straps) whole (found whole (world d image))
+            pick (yes x) y = rw (x, n) (reads rest ten to r (rw x at ten-frame))
+            pick (no x) (yes y) = rw (x, y, n) (writing-drives _ _ (writing rest ten 10 r (omega arith) (rw (rw (x, y) at ten-frame) (on refl refl (omega arith)))))
+            pick (no x) (no y) = rw (x, y) (ap drivenOf (rests rest ten (calm-high rest r) (rw (x, y) at ten-frame)) ∙ driven-idle)
 
 pub frame-drives : FrameDrives
 unfolding FrameDrives
@@ -665,16 +708,16 @@ frame-drives d image first others low e n =
     up : isReset first ≡ false
     up = up-first first others n
 
-    pick : (ss : List ℕ) → Head ss → Calm ss → drivenOf (through (first ∷ ss) (world d image) .device .frame) ≡ driven (d .straps) (first ∷ ss) (found (first ∷ ss) (world d image))
+    pick : (ss : List ℕ) → Head ss → Calm ss → drivenOf (through (first ∷ ss) (world d image) .device .frame) ≡ driven (d .part) (d .straps) (first ∷ ss) (found (first ∷ ss) (world d image))
     pick ss (short _ l) k =
-        let b = begun-clock (lines first) in
-        let c = folded-clock ss (d .straps) (begun (lines first)) k in
+        let b = begun-clock (d .part) (lines first) in
+        let c = folded-clock ss (d .part) (d .straps) (begun (d .part) (lines first)) k in
         ap drivenOf (from-first d image first ss low up k (omega arith))
-        ∙ early-undriven (folded (d .straps) (begun (lines first)) ss) (omega arith)
-        ∙ sym (nothing-yet (d .straps) (first ∷ ss) (found (first ∷ ss) (world d image)) (omega arith))
+        ∙ early-undriven (folded (d .part) (d .straps) (begun (d .part) (lines first)) ss) (omega arith)
+        ∙ sym (nothing-yet (d .part) (d .straps) (first ∷ ss) (found (first ∷ ss) (world d image)) (omega arith))
     pick _ (long s a b c e f g h t rest) k =
         let ss = s ∷ a ∷ b ∷ c ∷ e ∷ f ∷ g ∷ h ∷ t ∷ [] in
-        drives d image first s a b c e f g h t low up (calm-front ss rest k) rest (calm-back ss rest k)
+        drives d image first s a b c e f g h t (calm-front ss rest k) low up rest (calm-back ss rest k)
 
 -- behind clock 12 of a write no other acts within n clocks: none comes to its clock 12, or this one still goes on
 data Quiet (n : ℕ) (f : Frame) : Type 0 where
@@ -705,9 +748,9 @@ module _ (w : World) (s n : ℕ) where
   goes h q = pick (ask (eqb (frameLine s) 0)) q
     where
       pick : Answer (eqb (frameLine s) 0) → Quiet (suc n) (w .device .frame) → Goes
-      pick (yes l) q = goes-writeless (broken.writeless-low n (w .device .straps) (w .device .frame) s (eqb-true _ _ l) h)
-      pick (no l) (writeless k) = goes-writeless (broken.writeless-next n (w .device .straps) (w .device .frame) s (high-line s l) k)
-      pick (no l) (behind c m k) = goes-behind (c + 1) (omega arith) (writing-clock (w .device .straps) c (w .device .frame) s (high-line s l) (omega arith) k)
+      pick (yes l) q = goes-writeless (broken.writeless-low n (w .device .part) (w .device .straps) (w .device .frame) s (eqb-true _ _ l) h)
+      pick (no l) (writeless k) = goes-writeless (broken.writeless-next n (w .device .part) (w .device .straps) (w .device .frame) s (high-line s l) k)
+      pick (no l) (behind c m k) = goes-behind (c + 1) (omega arith) (writing-clock (w .device .part) (w .device .straps) c (w .device .frame) s (high-line s l) (omega arith) k)
 
 settled : (ss : List ℕ) (w : World) → length ss ≤ 11 → Quiet (length ss) (w .device .frame) → broken.never broken.writes ss w ≡ true
 settled [] w h q = refl
@@ -723,7 +766,7 @@ module _ (w : World) (s byte a : ℕ) (l : frameLine s ≡ 1) (e : w .device .fr
   act-clock : broken.framed w s ≡ frame 2 12 (lines byte + 16 * lines s) a
   act-clock =
       let x : lines byte % 16 ≡ lines byte = omega arith in
-      rw e (last-nibble (w .device .straps) (lines byte) a s (rw l) ∙ ap (λ (n : ℕ). frame 2 12 (n + 16 * lines s) a) x)
+      rw e (last-nibble (w .device .part) (w .device .straps) (lines byte) a s (rw l) ∙ ap (λ (n : ℕ). frame 2 12 (n + 16 * lines s) a) x)
 
   asks : askedOf (broken.framed w s) ≡ Write a (lines byte + 16 * lines s)
   asks = ap askedOf act-clock ∙ acts-on-12 (lines byte + 16 * lines s) a
@@ -756,12 +799,12 @@ write-acts d image first others later low e n len own h =
 
     Acts : List ℕ → Type 0
     Acts ss =
-        (askedOf (broken.framed (through (take 11 ss) (world d image)) (getD ss 11 0)) ≡ Write (addressIn ss) (dataIn ss))
+        (askedOf (broken.framed (through (take 11 ss) (world d image)) (getD ss 11 0)) ≡ Write (addressIn (d .part) ss) (dataIn ss))
         × SameButForFrame (through ss (world d image) .device)
-        (reachedOf (afterController (through (take 11 ss) (world d image) .device)) (getD ss 11 0) (addressIn ss) (dataIn ss) .device)
+        (reachedOf (afterController (through (take 11 ss) (world d image) .device)) (getD ss 11 0) (addressIn (d .part) ss) (dataIn ss) .device)
         × SameBehindTheBus (through (ss ++ later) (world d image)) (unheard later (through ss (world d image)))
 
-    pick : (ss : List ℕ) → Head ss → Calm ss → length ss ≡ 11 → isFor 14 (d .straps) (first ∷ ss) ≡ true → Acts (first ∷ ss)
+    pick : (ss : List ℕ) → Head ss → Calm ss → length ss ≡ 11 → isFor (d .part) (d .straps) 2 (first ∷ ss) ≡ true → Acts (first ∷ ss)
     pick ss (short _ l) k len own = absurd (omega arith)
     pick _ (long s a b c e f g i t []) k len own = absurd (omega arith)
     pick _ (long s a b c e f g i t (x ∷ [])) k len own = absurd (omega arith)
@@ -769,13 +812,11 @@ write-acts d image first others later low e n len own h =
     pick _ (long s a b c e f g i t (x ∷ y ∷ [])) k len own =
         let ss = s ∷ a ∷ b ∷ c ∷ e ∷ f ∷ g ∷ i ∷ t ∷ [] in
         let w = through (first ∷ ss) (world d image) in
-        let to = addressIn (first ∷ ss) in
-        let o = sym (is-for 14 (d .straps) (first ∷ ss)) ∙ own in
-        let ours = and-right (eqb (lines first) 14) _ o in
-        let p = ten-kind d image first s a b c e f g i t low up (calm-front ss (x ∷ y ∷ []) k) 2 refl (begun-write (lines first) (and-left (eqb (lines first) 14) _ o)) in
+        let to = addressIn (d .part) (first ∷ ss) in
+        let p = ten-write d image first s a b c e f g i t (calm-front ss (x ∷ y ∷ []) k) low up own in
         let q = calm-back ss (x ∷ y ∷ []) k in
         let m = calm-others x (y ∷ []) q in
-        let j = lower w x to (calm-line x (y ∷ []) q) (calm-up x (y ∷ []) q) (rw ours at p) in (
+        let j = lower w x to (calm-line x (y ∷ []) q) (calm-up x (y ∷ []) q) p in (
           asks (onward w x) y x to (calm-line y [] m) j,
           acts (onward w x) y x to (calm-line y [] m) j (calm-up y [] m),
           silent-behind (first ∷ (ss ++ (x ∷ y ∷ []))) later (world d image) h (acts-behind (onward w x) y x to (calm-line y [] m) j (calm-up y [] m)),

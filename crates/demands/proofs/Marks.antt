@@ -111,5 +111,5 @@ marks-change d image sample block e h = pick (ask (isReset sample))
     pick (no r) =
         rw r
         (ap (λ (m : ℕ). marked m block)
-        (answered-marks (askedOf (frameClock (d .straps) (d .frame) sample)) (withFrame (afterController d) (frameClock (d .straps) (d .frame) sample)) (applied (controllerClock (d .controller) .effect) image) sample)
+        (answered-marks (askedOf (frameClock (d .part) (d .straps) (d .frame) sample)) (withFrame (afterController d) (frameClock (d .part) (d .straps) (d .frame) sample)) (applied (controllerClock (d .controller) .effect) image) sample)
         ∙ by-clock block (d .controller) (zeros 1048576) (counting block (d .controller) (zeros 1048576) h f (zeros-length 1048576)))

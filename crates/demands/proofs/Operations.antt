@@ -43,6 +43,7 @@ use Rattle.bus.specs.Frames.{frameClock}
 use Rattle.access.specs.Read.{isArray, arrayAddress, lockOf}
 use Rattle.access.specs.Write.{reachedOf}
 use Rattle.clock.specs.Clock.{resetDevice, withFrame, afterController, answeredTo, servedOf, imageAfter, deviceClock}
+use Rattle.clock.proofs.Fixed.{fixed}
 use Rattle.clock.proofs.Pins.{alone}
 use Rattle.demands.specs.History.{isLast, contents}
 use Rattle.demands.specs.Operations.{unset, commanded, askedOn, writesToArray, isJudged, failure, acceptedAs, Starts, CountsOn, Counts, TimesBindLater, ImageChanges, EffectsDue, ResetLeaves, FreshAsReset, clears, leavesUnconfirmed, ErrorBits}
@@ -282,7 +283,7 @@ error-bits d image sample = pick (ask (isReset sample))
     pick (yes r) = rw (r, reset-errors (d .controller))
     pick (no r) =
         rw r
-        (errors-from (withFrame (afterController d) (frameClock (d .straps) (d .frame) sample)) (applied (controllerClock (d .controller) .effect) image) sample (d .controller .errors) (clocked-errors (d .controller)) (askedOn d sample))
+        (errors-from (withFrame (afterController d) (frameClock (d .part) (d .straps) (d .frame) sample)) (applied (controllerClock (d .controller) .effect) image) sample (d .controller .errors) (clocked-errors (d .controller)) (askedOn d sample))
 
 -- ---- What falls out of a judgement
 
@@ -339,7 +340,7 @@ verdict-bits d image sample = pick (ask (isReset sample))
     pick (yes r) = rw r
     pick (no r) =
         rw r
-        (answered-bits (withFrame (afterController d) (frameClock (d .straps) (d .frame) sample)) (applied (controllerClock (d .controller) .effect) image) sample (askedOn d sample))
+        (answered-bits (withFrame (afterController d) (frameClock (d .part) (d .straps) (d .frame) sample)) (applied (controllerClock (d .controller) .effect) image) sample (askedOn d sample))
 
 -- ---- How an operation starts, pauses and resumes
 
@@ -469,7 +470,7 @@ pub starts : Starts
 unfolding Starts deviceClock servedOf
 starts d image sample r =
     rw r
-    (answered-start (withFrame (afterController d) (frameClock (d .straps) (d .frame) sample)) (applied (controllerClock (d .controller) .effect) image) sample (askedOn d sample))
+    (answered-start (withFrame (afterController d) (frameClock (d .part) (d .straps) (d .frame) sample)) (applied (controllerClock (d .controller) .effect) image) sample (askedOn d sample))
 
 -- ---- How one counts
 
@@ -555,35 +556,11 @@ counts d = (λ m. rw m, λ m. pick m (ask (isAbsent (d .controller .inner))) (co
     pick m (yes i) k = rw (m, i) (k, refl, refl, refl, refl)
     pick m (no i) k = rw (m, i) (k, refl, refl, refl, refl)
 
--- straps and times stay on every clock
-reached-fixed : (d : Device) (sample address byte : ℕ)
-    → (reachedOf d sample address byte .device .straps ≡ d .straps) × (reachedOf d sample address byte .device .times ≡ d .times)
-unfolding reachedOf
-reached-fixed d sample address byte = elim (ask (isArray address)) [ yes x ↦ rw x (refl, refl) | no x ↦ rw x (refl, refl) ]
-
-answered-fixed : (asked : Asked) (d : Device) (late : List ℕ) (sample : ℕ)
-    → (answeredTo asked d late sample .device .straps ≡ d .straps) × (answeredTo asked d late sample .device .times ≡ d .times)
-answered-fixed Silent d late sample = (refl, refl)
-answered-fixed (Read address) d late sample = (refl, refl)
-answered-fixed (Write address byte) d late sample = reached-fixed d sample address byte
-
-fixed : (d : Device) (image : List ℕ) (sample : ℕ)
-    → (deviceClock d image sample .device .straps ≡ d .straps) × (deviceClock d image sample .device .times ≡ d .times)
-unfolding deviceClock servedOf resetDevice
-fixed d image sample = pick (ask (isReset sample))
-  where
-    pick : Answer (isReset sample)
-        → (deviceClock d image sample .device .straps ≡ d .straps) × (deviceClock d image sample .device .times ≡ d .times)
-    pick (yes r) = rw r (refl, refl)
-    pick (no r) =
-        rw r
-        (answered-fixed (askedOn d sample) (withFrame (afterController d) (frameClock (d .straps) (d .frame) sample)) (applied (controllerClock (d .controller) .effect) image) sample)
-
 pub times-bind-later : TimesBindLater
 unfolding TimesBindLater
 times-bind-later d image program slice pause sample ts =
     let k = fixed d image sample in
-    (set-keeps d program slice pause .controller, sym (alone (d .straps) (d .locks) (d .locks) (d .times) ts (d .frame) (unset d .controller) image sample sample refl refl), k .0, k .1)
+    (set-keeps d program slice pause .controller, sym (alone (d .part) (d .straps) (d .locks) (d .locks) (d .times) ts (d .frame) (unset d .controller) image sample sample refl refl), k .part, k .straps, k .times)
 
 -- ---- What it does to the array
 
@@ -641,4 +618,4 @@ reset-leaves d image sample r = rw r (refl, refl, refl)
 
 pub fresh-as-reset : FreshAsReset
 unfolding FreshAsReset resetDevice freshOf resetOf markedBy
-fresh-as-reset straps ts = (refl, refl)
+fresh-as-reset part straps ts = (refl, refl)

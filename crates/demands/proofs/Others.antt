@@ -12,13 +12,12 @@ use Rattle.basics.specs.All.{all}
 use Rattle.basics.proofs.All.{none, also}
 use Rattle.basics.proofs.Rules.{Answer, yes, no, ask, clash}
 use Rattle.record.specs.declared.Device.{Device}
-use Rattle.record.specs.Record.{frame, idle, isWrite}
-use Rattle.record.specs.Sample.{lines, frameLine, isReset}
-use Rattle.bus.specs.Frames.{begun, frameClock}
+use Rattle.record.specs.Record.{frame, idle}
+use Rattle.record.specs.Sample.{frameLine, isReset}
 use Rattle.clock.specs.Fold.{World, world, onward, through}
 use Rattle.clock.proofs.Broken as broken
 use Rattle.demands.specs.Demand2.{allHigh, noneResets, addressIn, isFor, OtherFramesGiveNothing}
-use Rattle.demands.proofs.Frames.{high-first, high-others, reset-idle, unwritten, Calm, up-first, up-others, calmly, calm-high, calm-front, Head, short, long, head, begun-write, is-for, ten-kind}
+use Rattle.demands.proofs.Frames.{high-first, high-others, reset-idle, unwritten, Calm, up-first, up-others, calmly, calm-high, calm-front, Head, short, long, head, ten-frame}
 
 -- on none of the clocks a byte is written
 abbrev Unwritten : List ℕ → World → Type 0
@@ -44,7 +43,7 @@ high-back (s ∷ ss) ts e = high-back ss ts (high-others s (ss ++ ts) e)
 in-time : (ss : List ℕ) (w : World) → allHigh ss ≡ true → broken.Writeless (length ss) (w .device .frame) → Unwritten ss w
 in-time [] w e k = refl
 in-time (s ∷ ss) w e k =
-    let c = broken.writeless-next (length ss) (w .device .straps) (w .device .frame) s (high-first s ss e) k in
+    let c = broken.writeless-next (length ss) (w .device .part) (w .device .straps) (w .device .frame) s (high-first s ss e) k in
     rw (broken.writeless-writes (length ss) w s c)
     (in-time ss (onward w s) (high-others s ss e) (broken.writeless-onward (length ss) w s c))
 
@@ -68,19 +67,10 @@ cut : (n : ℕ) (ss : List ℕ) (w : World)
 cut n [] w e r k = refl
 cut zero (s ∷ ss) w e r k = unless-reset s ss w (high-others s ss e) (λ x. clash (sym (rw x at r)))
 cut (suc n) (s ∷ ss) w e r k =
-    let c = broken.writeless-next n (w .device .straps) (w .device .frame) s (high-first s ss e) k in
+    let c = broken.writeless-next n (w .device .part) (w .device .straps) (w .device .frame) s (high-first s ss e) k in
     let o = high-others s ss e in
     let k = broken.writeless-onward n w s c in
     unless-reset s ss w o (λ x. rw (broken.writeless-writes n w s c) (cut n ss (onward w s) o (rw x at r) k))
-
--- another first nibble begins no write
-begun-other : (n : ℕ) → eqb n 14 ≡ false → isWrite (begun n) ≡ false
-unfolding begun
-begun-other n x = pick (ask (eqb n 13))
-  where
-    pick : Answer (eqb n 13) → isWrite (begun n) ≡ false
-    pick (yes y) = rw y
-    pick (no y) = rw (y, x)
 
 -- a frame from its first sample on
 module _ (w : World) (first : ℕ) (others : List ℕ) (low : frameLine first ≡ 0) (e : allHigh others ≡ true) where
@@ -92,45 +82,45 @@ module _ (w : World) (first : ℕ) (others : List ℕ) (low : frameLine first �
 
   -- it has not come to clock 12
   not-yet : length others ≤ 10 → Unwritten (first ∷ others) w
-  not-yet h = from-start (broken.writeless-low (length others) (w .device .straps) (w .device .frame) first low h)
-
-  -- it is no write
-  no-write : eqb (lines first) 14 ≡ false → Unwritten (first ∷ others) w
-  unfolding frameClock
-  no-write x = from-start (broken.other (rw low (begun-other (lines first) x)))
+  not-yet h = from-start (broken.writeless-low (length others) (w .device .part) (w .device .straps) (w .device .frame) first low h)
 
   -- it is cut off by a reset, on clock 12 at the latest
   cut-off : noneResets (take 12 (first ∷ others)) ≡ false → Unwritten (first ∷ others) w
   cut-off r =
-      let k = broken.writeless-low 10 (w .device .straps) (w .device .frame) first low (omega arith) in
+      let k = broken.writeless-low 10 (w .device .part) (w .device .straps) (w .device .frame) first low (omega arith) in
       unless-reset first others w e
       (λ x. starts 10 k (cut 10 others (onward w first) e (rw x at r) (broken.writeless-onward 10 w first k)))
 
--- a write that is for another part
-module _ (d : Device) (image : List ℕ) (first : ℕ) (low : frameLine first ≡ 0) (x : eqb (lines first) 14 ≡ true) where
+-- a frame that is no write for this part: after its clock 10 it is a read, or none
+module _ (d : Device) (image : List ℕ) (first : ℕ) (low : frameLine first ≡ 0) where
   for-another : (others : List ℕ)
       → Head others
       → allHigh others ≡ true
       → noneResets (take 12 (first ∷ others)) ≡ true
-      → isFor 14 (d .straps) (first ∷ others) ≡ false
+      → isFor (d .part) (d .straps) 2 (first ∷ others) ≡ false
       → Unwritten (first ∷ others) (world d image)
   for-another others (short _ h) e n own = not-yet (world d image) first others low e (omega arith)
   for-another _ (long s a b c f g h i t rest) e n own =
       unwritten-both (first ∷ nine) rest (world d image) (not-yet (world d image) first nine low (calm-high nine k) (omega arith))
-      (at-rest rest (through (first ∷ nine) (world d image)) (high-back nine rest e) (rw strange at p))
+      (in-time rest ten (high-back nine rest e) (pick (ask (isFor (d .part) (d .straps) 1 (first ∷ nine)))))
     where
       nine : List ℕ
       nine = s ∷ a ∷ b ∷ c ∷ f ∷ g ∷ h ∷ i ∷ t ∷ []
 
+      ten : World
+      ten = through (first ∷ nine) (world d image)
+
       k : Calm nine
       k = calm-front nine (take 2 rest) (calmly (take 11 (nine ++ rest)) (high-some 11 (nine ++ rest) e) (up-others first (take 11 (nine ++ rest)) n))
 
-      p : through (first ∷ nine) (world d image) .device .frame
-          ≡ cond (eqb (lines s) (d .straps) && eqb (lines t) 0) (frame 2 10 0 (addressIn (first ∷ nine))) idle
-      p = ten-kind d image first s a b c f g h i t low (up-first first (take 11 (nine ++ rest)) n) k 2 refl (begun-write (lines first) x)
+      p : ten .device .frame
+          ≡ cond (isFor (d .part) (d .straps) 1 (first ∷ nine)) (frame 1 10 0 (addressIn (d .part) (first ∷ nine)))
+          (cond (isFor (d .part) (d .straps) 2 (first ∷ nine)) (frame 2 10 0 (addressIn (d .part) (first ∷ nine))) idle)
+      p = ten-frame d image first s a b c f g h i t k low (up-first first (take 11 (nine ++ rest)) n)
 
-      strange : (eqb (lines s) (d .straps) && eqb (lines t) 0) ≡ false
-      strange = rw x at (sym (is-for 14 (d .straps) (first ∷ (nine ++ rest))) ∙ own)
+      pick : Answer (isFor (d .part) (d .straps) 1 (first ∷ nine)) → broken.Writeless (length rest) (ten .device .frame)
+      pick (yes x) = rw (rw x at p) (broken.other refl)
+      pick (no x) = rw (rw (x, own) at p) (broken.other refl)
 
 -- of three clauses that do not all hold the first does not, if the others do
 not-first : (a b c : Bool) → all (a ∷ b ∷ c ∷ []) ≡ false → b ≡ true → c ≡ true → a ≡ false
@@ -139,15 +129,13 @@ not-first a b c n y z = elim (ask a) [ yes x ↦ clash (sym n ∙ also _ x (also
 pub other-frames : OtherFramesGiveNothing
 unfolding OtherFramesGiveNothing
 other-frames d image first others low e n =
-    unwritten (first ∷ others) (world d image) (pick (ask (leb 12 (length (first ∷ others)))) (ask up) (ask (eqb (lines first) 14)))
+    unwritten (first ∷ others) (world d image) (pick (ask (leb 12 (length (first ∷ others)))) (ask up))
   where
     up : Bool
     up = noneResets (take 12 (first ∷ others))
 
-    pick : Answer (leb 12 (length (first ∷ others))) → Answer up → Answer (eqb (lines first) 14) → Unwritten (first ∷ others) (world d image)
-    pick (no h) r x =
+    pick : Answer (leb 12 (length (first ∷ others))) → Answer up → Unwritten (first ∷ others) (world d image)
+    pick (no h) r =
         let l = leb-false 12 (length (first ∷ others)) h in not-yet (world d image) first others low e (omega arith)
-    pick (yes h) (no r) x = cut-off (world d image) first others low e r
-    pick (yes h) (yes r) (no x) = no-write (world d image) first others low e x
-    pick (yes h) (yes r) (yes x) =
-        for-another d image first low x others (head others) e r (not-first _ _ _ n h r)
+    pick (yes h) (no r) = cut-off (world d image) first others low e r
+    pick (yes h) (yes r) = for-another d image first low others (head others) e r (not-first _ _ _ n h r)

@@ -44,7 +44,7 @@ pub looks-at-no-pin : LooksAtNoPin
 unfolding LooksAtNoPin
 looks-at-no-pin d image locks sample pins =
     let e = repinned-alike sample pins in
-    (sym (alone (d .straps) (d .locks) locks (d .times) (d .times) (d .frame) (unset d .controller) image sample (repinned pins sample) refl e), image-alike d image locks sample (repinned pins sample) e)
+    (sym (alone (d .part) (d .straps) (d .locks) locks (d .times) (d .times) (d .frame) (unset d .controller) image sample (repinned pins sample) refl e), image-alike d image locks sample (repinned pins sample) e)
 
 -- a step that is done is one clock of a sound device
 record Done (d : Device) (image : List ℕ) (sample : ℕ) : Type 0 where
@@ -111,7 +111,7 @@ readied-together : (v w : World) (l k : List ℕ)
 readied-together v w l k z g h =
     let a = z .alike in
     record {
-      alike = record { straps = a .straps; times = a .times; frames = a .frames; controllers = a .controllers; images = a .images };
+      alike = record { part = a .part; straps = a .straps; times = a .times; frames = a .frames; controllers = a .controllers; images = a .images };
       one = g;
       other = h;
     }
@@ -144,10 +144,10 @@ set-alike p q r v w t = pick (ask (timesFit (times p q r)))
     pick : Answer (timesFit (times p q r)) → Alike (after (retime p q r) v) (after (retime p q r) w)
     pick (yes y) =
         rw (t .one .sound, t .other .sound, y)
-        (record { straps = a .straps; times = refl; frames = a .frames; controllers = a .controllers; images = a .images })
+        (record { part = a .part; straps = a .straps; times = refl; frames = a .frames; controllers = a .controllers; images = a .images })
     pick (no n) =
         rw (t .one .sound, t .other .sound, n)
-        (record { straps = a .straps; times = a .times; frames = a .frames; controllers = a .controllers; images = a .images })
+        (record { part = a .part; straps = a .straps; times = a .times; frames = a .frames; controllers = a .controllers; images = a .images })
 
 changed : (p q r : ℕ) (v w : World) → Together v w → Together (after (retime p q r) v) (after (retime p q r) w)
 changed p q r v w t =
@@ -315,13 +315,13 @@ together (change p q r ∷ ms) (change x y i ∷ ns) v w z e f g j =
 
 pub pins-reach-no-operation : PinsReachNoOperation
 unfolding PinsReachNoOperation CallsAreClocks
-pins-reach-no-operation straps program slice pause image before one other l e f g j =
-    let w = atPowerUp straps program slice pause image in
-    let c = calls-are-clocks straps program slice pause image before l in
-    let h : Good (leaving before w) = rw c (good-ending (events before w) w (powered straps program slice pause image l)) in
+pins-reach-no-operation part straps program slice pause image before one other l e f g j =
+    let w = atPowerUp part straps program slice pause image in
+    let c = calls-are-clocks part straps program slice pause image before l in
+    let h : Good (leaving before w) = rw c (good-ending (events before w) w (powered part straps program slice pause image l)) in
     together one other (leaving before w) (leaving before w)
     (record {
-      alike = record { straps = refl; times = refl; frames = same; controllers = refl; images = refl };
+      alike = record { part = refl; straps = refl; times = refl; frames = same; controllers = refl; images = refl };
       one = h;
       other = h;
     })

@@ -136,7 +136,7 @@ asking (Write address byte) b sample d image e = pick (ask (isArray address))
     pick (yes x) = rw x (writing b sample (d .locks) (d .controller) (d .times) (arrayAddress address) byte (p .controller) (p .times) (omega arith))
     pick (no x) = rw x (unmoved b sample (d .locks) (d .controller))
 
-framed : (d : Device) (f : Frame) → soundOf d ≡ true → frameFits f ≡ true → soundOf (withFrame d f) ≡ true
+framed : (d : Device) (f : Frame) → soundOf d ≡ true → frameFits (d .part) f ≡ true → soundOf (withFrame d f) ≡ true
 framed d f e h =
     let p = parts d e in
     joined _ (record { straps = p .straps; locks = p .locks; times = p .times; frame = h; controller = p .controller })
@@ -146,8 +146,8 @@ serving : (b sample : ℕ) (d : Device) (image : List ℕ)
     → Moving b sample (d .locks) (d .controller) (servedOf d image sample .device .controller)
 unfolding servedOf
 serving b sample d image e =
-    asking (askedOf (frameClock (d .straps) (d .frame) sample)) b sample (withFrame d (frameClock (d .straps) (d .frame) sample)) image
-    (framed d (frameClock (d .straps) (d .frame) sample) e (frame-kept (d .straps) (d .frame) sample (parts d e .frame)))
+    asking (askedOf (frameClock (d .part) (d .straps) (d .frame) sample)) b sample (withFrame d (frameClock (d .part) (d .straps) (d .frame) sample)) image
+    (framed d (frameClock (d .part) (d .straps) (d .frame) sample) e (frame-kept (d .part) (d .straps) (d .frame) sample (parts d e .frame)))
 
 -- a block whose operation is absent has none at all
 none-there : (b : ℕ) (c : Controller) → isAbsent (opOf b c) ≡ true → (isOn b (c .outer) ≡ false) × (isOn b (c .inner) ≡ false)

@@ -145,8 +145,8 @@ abbrev lpcReads : ℕ → ℕ → List ℕ
 lpcReads type address = normal ∷ (lpcHead type address ++ idles normal 9)
 
 abbrev lpcWrites : ℕ → ℕ → ℕ → List ℕ
-lpcWrites type address byte =
-    normal ∷ (lpcHead type address ++ (leaves normal (byte % 16) ∷ leaves normal (byte / 16) ∷ idles normal 5))
+lpcWrites type address value =
+    normal ∷ (lpcHead type address ++ (leaves normal (value % 16) ∷ leaves normal (value / 16) ∷ idles normal 5))
 
 abbrev lpcTarget : ℕ
 lpcTarget = 0xFFFF0005

@@ -56,7 +56,6 @@ isMissing MakerCode = false
 isMissing DeviceCode = false
 isMissing Missing = true
 
-
 pub its-lock : (lpc : Bool) (o : ℕ) → isItsLock o (firstAt (registers lpc) o) ≡ true
 its-lock true o = found isItsLock (λ i. refl) (registers true) o refl
 its-lock false o = found isItsLock (λ i. refl) (registers false) o refl

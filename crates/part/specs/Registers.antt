@@ -44,5 +44,5 @@ firstAt (e ∷ es) offset = cond (eqb (e .at) offset) (e .what) (firstAt es offs
 
 unfoldable pub registerAt : ℕ → ℕ → ℕ → Register
 registerAt part straps address =
-    cond (ltb address (registerBase part straps)) Missing 
+    cond (ltb address (registerBase part straps)) Missing
     (firstAt (registers (isLpc part)) (address - registerBase part straps))

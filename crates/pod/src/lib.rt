@@ -15,7 +15,13 @@ ghost use Rattle.sheet.specs.Sheet.{ReadsNumbers, WritesSheet};
 ghost use Rattle.view.specs.Shown.{ShowsPiece};
 
 #[no_mangle]
-pub extern "C" fn pod_power_up(part: u32, straps: u32, program: u32, slice: u32, pause: u32) -> Powered
+pub extern "C" fn pod_power_up(
+    part: u32,
+    straps: u32,
+    program: u32,
+    slice: u32,
+    pause: u32,
+) -> Powered
     ensures { λ r. ⌜ PowersUp part straps program slice pause r ⌝ }
 {
     power::power_up(part, straps, program, slice, pause)

@@ -167,10 +167,7 @@ fn stage_fits(part: u8, f: Frame, last: u8) -> bool
 {
     both(
         known_from(part) <= f.clock,
-        both(
-            f.clock <= last,
-            (f.address as u64) < address_limit(part),
-        ),
+        both(f.clock <= last, (f.address as u64) < address_limit(part)),
     )
 }
 
@@ -181,10 +178,7 @@ fn begun_fits(part: u8, f: Frame) -> bool
         f.kind == 3,
         both(
             part == 1,
-            both(
-                f.clock == 1,
-                (f.address as u64) < address_limit(part),
-            ),
+            both(f.clock == 1, (f.address as u64) < address_limit(part)),
         ),
     )
 }

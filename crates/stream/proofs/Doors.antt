@@ -14,7 +14,7 @@ use Rattle.part.specs.Parts.{strapCount}
 use Rattle.status.specs.Status.{statusOf}
 use Rattle.clock.specs.Fold.{world, through, answersTo}
 use Rattle.record.specs.Sample.{samples}
-use Rattle.stream.specs.Run.{misshapen, runNumber, freshWorld, report, ran, ranOf}
+use Rattle.stream.specs.Run.{misshapen, streamNumber, runNumber, freshWorld, report, ran, ranOf}
 use Rattle.record.proofs.Samples.{samples-length}
 
 pub record Accepted (image stream answers : List ℕ) (part straps program slice pause : ℕ) : Type 0 where
@@ -41,7 +41,7 @@ module _ (image stream answers : List ℕ) (part straps program slice pause : �
     (e : number ≡ runNumber image stream answers part straps program slice pause)
   where
     pub accepts : number ≡ 0 → Accepted image stream answers part straps program slice pause
-    unfolding runNumber misshapen
+    unfolding runNumber streamNumber misshapen
     accepts n =
         let i = there (eqb (length image) 1048576) _ 1 (sym e ∙ n) in
         let s = not-there (leb (strapCount part) straps) 2 _ (i .1) in

@@ -16,7 +16,7 @@ use Rattle.part.specs.Parts.{strapCount}
 use Rattle.status.specs.Status.{conditionOf, statusOf}
 use Rattle.clock.specs.Fold.{World, onward, answersTo}
 use Rattle.record.specs.Sample.{samples}
-use Rattle.stream.specs.Run.{misshapen, runNumber, freshWorld, report, ran, reported, ranOf}
+use Rattle.stream.specs.Run.{misshapen, streamNumber, runNumber, freshWorld, report, ran, reported, ranOf}
 use Rattle.record.proofs.Samples.{samples-length}
 use Rattle.stream.proofs.Doors.{refuses}
 
@@ -61,7 +61,7 @@ pub empty-done : (image answers : List ℕ) (part straps program slice pause : �
     → straps < strapCount part
     → timesFit (times program slice pause) ≡ true
     → ranOf image [] answers part straps program slice pause ≡ ran (report 0 0 0x80 0) image answers
-unfolding freshOf statusOf conditionOf runNumber misshapen
+unfolding freshOf statusOf conditionOf runNumber streamNumber misshapen
 empty-done image answers part straps program slice pause i h t =
     done image [] answers part straps program slice pause
     (rw (eq-eqb (length image) 1048576 i, lt-leb (strapCount part) straps h, t, le-ltb (length answers) 0 (omega arith)))

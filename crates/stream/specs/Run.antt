@@ -22,16 +22,18 @@ overvolted (s ∷ ss) = cond (eqb (voltage s) 3) true (overvolted ss)
 unfoldable pub misshapen : List ℕ → Bool
 misshapen stream = cond (ltb 131072 (length stream)) true (eqb (length stream % 2) 1)
 
+-- which refusal a stream and an answer buffer meet, 0 for none
+unfoldable pub streamNumber : List ℕ → List ℕ → ℕ
+streamNumber stream answers =
+    cond (misshapen stream) 5
+    (cond (ltb (length answers) (length stream / 2)) 6 (cond (overvolted (samples stream)) 7 0))
+
 -- which refusal a run meets, 0 for none: 2, 3, 4, 5, 6, 7, lowest first
 unfoldable pub runNumber : List ℕ → List ℕ → List ℕ → ℕ → ℕ → ℕ → ℕ → ℕ → ℕ
 runNumber image stream answers part straps program slice pause =
     cond (eqb (length image) 1048576)
     (cond (leb (strapCount part) straps) 3
-    (cond (timesFit (times program slice pause))
-    (cond (misshapen stream) 5
-    (cond (ltb (length answers) (length stream / 2)) 6
-    (cond (overvolted (samples stream)) 7 0)))
-    4))
+    (cond (timesFit (times program slice pause)) (streamNumber stream answers) 4))
     2
 
 -- the device fresh, with the image as it is lent

@@ -12,7 +12,7 @@ use units::are_times;
 use units::times_of;
 ghost use mathlib.Core.Path.{_≡_};
 ghost use Rattle.record.specs.Sample.{samples};
-ghost use Rattle.stream.specs.Run.{overvolted, runNumber, Runs};
+ghost use Rattle.stream.specs.Run.{overvolted, streamNumber, runNumber, Runs};
 
 // The numbered answer of a run, samples done, the status register and the spoiled marks.
 #[repr(C)]
@@ -38,7 +38,26 @@ fn is_overvolted(stream: &[u8]) -> bool
     over
 }
 
-// Which refusal a run meets, 0 for none. Every sample is tested here, and none is stepped.
+// Which refusal a stream and an answer buffer meet, 0 for none. Every sample is tested here, and none is stepped.
+fn stream_number(stream: &[u8], answers: &[u8]) -> u32
+    ensures { λ r. ⌜ r ≡ streamNumber (now (stream .entry)) (now (answers .entry)) ⌝ }
+{
+    if 131072 < stream.len() {
+        return 5;
+    }
+    if stream.len() % 2 == 1 {
+        return 5;
+    }
+    if answers.len() < stream.len() / 2 {
+        return 6;
+    }
+    if is_overvolted(stream) {
+        return 7;
+    }
+    0
+}
+
+// Which refusal a run meets, 0 for none.
 fn run_number(
     image: &[u8],
     stream: &[u8],
@@ -56,19 +75,7 @@ fn run_number(
             return 3;
         }
         if are_times(program, slice, pause) {
-            if 131072 < stream.len() {
-                return 5;
-            }
-            if stream.len() % 2 == 1 {
-                return 5;
-            }
-            if answers.len() < stream.len() / 2 {
-                return 6;
-            }
-            if is_overvolted(stream) {
-                return 7;
-            }
-            return 0;
+            return stream_number(stream, answers);
         }
         return 4;
     }

@@ -2,16 +2,31 @@
 -- Assumes nothing.
 use borrow.Author.Needs.{needs}
 use native.Mathlib.Omega.{arith}
+use Rattle.part.proofs.Straps.{allowed}
 use Rattle.soundness.proofs.Fresh.{fresh-sound}
 use Rattle.stream.proofs.Doors.{accepts, finishes, refuses}
 use Rattle.stream.proofs.run.Statement.{statement}
 use Rattle.stream.proofs.run.Tie as tie
 
 cast-fresh : tie.Need-cast-fresh
-cast-fresh c = let f = accepts _ _ _ _ _ _ _ _ (c .before .run-number .ensures) (c .if1 .taken) in omega (arith, f .strapped)
+cast-fresh c =
+    let f = accepts _ _ _ _ _ _ _ _ (c .before .run-number .ensures) (c .if1 .taken) in
+    let a = allowed _ _ (f .strapped) in
+    omega (arith, a .0)
+
+cast-fresh-2 : tie.Need-cast-fresh-2
+cast-fresh-2 c =
+    let f = accepts _ _ _ _ _ _ _ _ (c .before .run-number .ensures) (c .if1 .taken) in
+    let a = allowed _ _ (f .strapped) in
+    omega (arith, a .1)
 
 times-of-requires : tie.Need-times-of-requires
 times-of-requires c κs = accepts _ _ _ _ _ _ _ _ (c .before .run-number .ensures) (c .if1 .taken) .timely
+
+fresh-requires : tie.Need-fresh-requires
+fresh-requires c κs =
+    let i = c .before in
+    allowed _ _ (accepts _ _ _ _ _ _ _ _ (i .before .run-number .ensures) (i .if1 .taken) .strapped) .0
 
 run-samples-requires : tie.Need-run-samples-requires
 run-samples-requires c κs =
@@ -22,8 +37,8 @@ run-samples-requires c κs =
       (f .whole, (f .short, f .roomy)),
     )
 
-cast-t25 : tie.Need-cast-t25
-cast-t25 c =
+cast-t27 : tie.Need-cast-t27
+cast-t27 c =
     let i = c .before .before .before .before .before .before .before .before .before .before in
     let f = accepts _ _ _ _ _ _ _ _ (i .before .run-number .ensures) (i .if1 .taken) in
     omega (arith, f .short)
@@ -45,10 +60,11 @@ run-spec =
     (tie.spec
     (λ c κs. search needs)
     cast-fresh
+    cast-fresh-2
     times-of-requires
-    (λ c κs. search needs)
+    fresh-requires
     run-samples-requires
-    cast-t25
+    cast-t27
     (λ c κs. search needs)
     (λ c. search needs)
     (λ c. search needs)
