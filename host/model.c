@@ -331,7 +331,7 @@ static inline void fwh_head(struct model *m, uint32_t clock, uint32_t lines)
     }
 }
 
-/* Whether an LPC address is this part's: A31 to A23 all 1, and A21 and A20 each the opposite of its pin, ID1 and ID0. */
+/* Whether an LPC address is this part's: A31 to A23 all 1, A21 and A20 each the opposite of its pin, ID1 and ID0. */
 static bool lpc_selected(const struct model *m)
 {
     const uint32_t pins = ~(m->address >> 20) & 3;

@@ -13,7 +13,7 @@
  *       break CLOCK               the frame line is low on that clock, the lines at `nibble N` (F), and the frame ends
  *       cut CLOCK                 the frame stops before that clock; `on` goes on with it
  *       strap N, size N, start N, turn N   another nibble than the right one (turn: all clocks of turnaround)
- *       type N                    the same on LPC, which has no straps and no size on its bus: the cycle type of clock 2
+ *       type N                    the same on LPC, for the cycle type of clock 2; it has no straps and no size there
  *       silent                    the part is not to drive at all
  *   on [N]                        the next N clocks, or all, of the frame that was cut
  *   idle N                        N samples, at most 1,000,000

@@ -13,6 +13,7 @@
 #include "diff/trace.h"
 #include "pod.h"
 #include "test/same_device.h"
+#include "test/scope.h"
 
 #include <stdbool.h>
 #include <stddef.h>
@@ -69,25 +70,31 @@ static void wild_operation(struct pod_operation *o)
     }
 }
 
-static void wild_frame(struct pod_frame *frame)
+static void wild_frame(struct pod_frame *frame, uint32_t part)
 {
-    frame->kind = (uint8_t)rnd(POD_FRAME_WRITE + 1);
-    frame->clock = 0;
-    if (frame->kind != POD_FRAME_NONE) {
-        frame->clock = (uint8_t)about(1, (frame->kind == POD_FRAME_READ ? FRAME_READ_CLOCKS : FRAME_WRITE_CLOCKS) - 1);
+    const uint32_t first = part == POD_PART_LPC ? FRAME_CLOCK_SELECT : 1;
+    frame->kind = (uint8_t)rnd(POD_FRAME_BEGUN + 1);
+    frame->clock = (uint8_t)about(1, 1);
+    if (frame->kind == POD_FRAME_READ) {
+        frame->clock = (uint8_t)about(first, FRAME_READ_CLOCKS - 1);
+    } else if (frame->kind == POD_FRAME_WRITE) {
+        frame->clock = (uint8_t)about(first, FRAME_WRITE_CLOCKS - 1);
     }
     frame->byte = rnd_byte();
     frame->address = about(0, ADDRESS_MOST);
+    if (part == POD_PART_LPC && one_in(2)) {
+        frame->address = about(ADDRESS_LPC_HIGH, ADDRESS_LPC_MOST);
+    }
 }
 
 /* A field of a device, or some that go together, set to what may or may not be sound. */
 static void wild_field(struct pod_device *d)
 {
     uint8_t lock = 0;
-    switch (rnd(9)) {
+    switch (rnd(10)) {
     case 0:
     case 1:
-        wild_frame(&d->frame);
+        wild_frame(&d->frame, d->part);
         break;
     case 2:
     case 3:
@@ -107,8 +114,11 @@ static void wild_field(struct pod_device *d)
         lock = (uint8_t)about(0, 7);
         d->locks[rnd(POD_BLOCKS)] = lock;
         break;
+    case 8:
+        d->straps = (uint8_t)about(0, straps_most(d->part));
+        break;
     default:
-        d->straps = (uint8_t)about(0, POD_STRAPS_MOST);
+        d->part = (uint8_t)about(POD_PART_FWH, POD_PART_LPC);
         break;
     }
 }
@@ -136,8 +146,17 @@ static struct pod_device wild_device(void)
     return d;
 }
 
+/* The lines that let a frame go on, if this is one of its first clocks. */
+static unsigned likely_lines(const struct pod_device *d)
+{
+    if (d->part == POD_PART_FWH) {
+        return one_in(2) ? d->straps : 0;
+    }
+    return one_in(2) ? FRAME_TYPE_READ + rnd(4) : one_in(2) ? FRAME_START_LPC : 0xF;
+}
+
 /* A sample of any bits, but mostly one that lets a device go on. */
-static uint16_t wild_sample(uint8_t straps)
+static uint16_t wild_sample(const struct pod_device *d)
 {
     uint16_t sample = (uint16_t)rnd(65536);
     if (sample_voltage(sample) > POD_VOLTAGE_TWELVE) {
@@ -149,7 +168,7 @@ static uint16_t wild_sample(uint8_t straps)
     if (!one_in(60)) {
         sample |= POD_SAMPLE_RP | POD_SAMPLE_INIT;
     }
-    return one_in(3) ? sample_with_lines(sample, one_in(2) ? straps : 0) : sample;
+    return one_in(3) ? sample_with_lines(sample, likely_lines(d)) : sample;
 }
 
 static void step_wild(struct pod_device d)
@@ -157,7 +176,7 @@ static void step_wild(struct pod_device d)
     struct pod_device kept = d;
     const uint32_t clocks = 1 + rnd(60);
     for (uint32_t i = 0; i < clocks; i++) {
-        const uint16_t sample = wild_sample(d.straps);
+        const uint16_t sample = wild_sample(&d);
         const struct pod_stepped stepped = pod_step(d, images.wild, POD_IMAGE_BYTES, sample);
         const struct pod_clocked clocked = pod_clock(&kept, images.wild_clock, POD_IMAGE_BYTES, sample);
         expect("number of pod_step on wild bytes", POD_DONE, stepped.number);
@@ -178,13 +197,13 @@ void try_wild_device(void)
     const struct pod_device d = wild_device();
     const struct pod_powered set = pod_set_times(d, 1, 1, 1);
     trace.tried = &d;
-    if (set.number == POD_REFUSED_DEVICE) {
+    if (!is_sound(&d)) {
         expect_refused("wild bytes", &d);
         tally(WILD_REFUSED);
     } else {
         expect("number of pod_set_times on wild bytes", POD_DONE, set.number);
         step_wild(d);
-        tally(WILD_STEPPED);
+        tally(d.part == POD_PART_LPC ? WILD_STEPPED_LPC : WILD_STEPPED_FWH);
     }
     trace.tried = NULL;
 }
