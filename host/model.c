@@ -11,6 +11,7 @@ enum {
     FWH_DEVICE_CODE = 0x2D,
     LPC_DEVICE_CODE = 0x2F,
 
+    FWH_ADDRESS = 0xFFFFFFF, /* 28 bits; on LPC it is 32 */
     ADDRESS_ARRAY = 0x0400000, /* bit 22: the address is of the array */
     ADDRESS_IN_ARRAY = 0x00FFFFF,
 
@@ -325,7 +326,7 @@ static inline void fwh_head(struct model *m, uint32_t clock, uint32_t lines)
         if (lines != m->straps)
             m->frame = FRAME_NONE;
     } else if (clock < 10) {
-        m->address = m->address << 4 | lines;
+        m->address = (m->address << 4 | lines) & FWH_ADDRESS;
     } else if (lines != 0) {
         m->frame = FRAME_NONE;
     }

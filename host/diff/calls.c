@@ -170,7 +170,7 @@ void call_aside(void)
         try_view();
         break;
     case 9:
-        if (one_in(8)) {
+        if (one_in(3)) {
             try_run();
         }
         break;

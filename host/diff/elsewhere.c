@@ -47,8 +47,10 @@ void send_elsewhere(void)
     struct pod_device d = step_device;
     bool look_at_mode = false;
     uint32_t block = 0;
-    switch (rnd(8)) {
+    switch (rnd(10)) {
     case 0:
+    case 8:
+    case 9:
         shift_part(&d);
         break;
     case 1:

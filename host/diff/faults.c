@@ -1,6 +1,7 @@
 /* Devices of one fault. */
 #include "diff/faults.h"
 
+#include "bus/addresses.h"
 #include "bus/frames.h"
 #include "diff/choices.h"
 #include "diff/condition.h"
@@ -51,6 +52,18 @@ static const char *fault_of_part(struct pod_device *d, uint32_t roll)
     return "a third part";
 }
 
+/* Where no frame is in progress, one that could be. */
+static void frame_if_none(struct pod_frame *frame)
+{
+    const uint32_t first = model.part == POD_PART_LPC ? FRAME_CLOCK_SELECT : 1;
+    if (model.frame != FRAME_NONE) {
+        return;
+    }
+    frame->kind = (uint8_t)(POD_FRAME_READ + rnd(2));
+    frame->clock = (uint8_t)(first + rnd(FRAME_WRITE_CLOCKS - first));
+    frame->address = array_address(model.part, model.straps, rnd(POD_IMAGE_BYTES));
+}
+
 /* Faults of a frame, on FWH and on LPC. */
 static const char *fault_of_fwh_frame(struct pod_frame *frame, uint32_t roll)
 {
@@ -59,9 +72,7 @@ static const char *fault_of_fwh_frame(struct pod_frame *frame, uint32_t roll)
         tally(FAULT_BEGUN_ON_FWH);
         return "a frame of unknown direction on FWH";
     }
-    if (model.frame == FRAME_NONE) {
-        return NULL;
-    }
+    frame_if_none(frame);
     frame->address |= 1u << (28 + rnd(4));
     tally(FAULT_FWH_ADDRESS);
     return "a frame address beyond 28 bits";
@@ -83,17 +94,14 @@ static const char *fault_of_lpc_frame(struct pod_frame *frame, uint32_t roll)
 
 static const char *fault_of_frame(struct pod_frame *frame, uint32_t roll)
 {
-    const uint32_t kinds = POD_FRAME_BEGUN + 1;
     uint32_t clocks = 0;
     switch (roll) {
     case 2:
-        frame->kind = no_meaning(kinds);
+        frame->kind = no_meaning(POD_FRAME_BEGUN + 1);
         return "a fourth kind of frame";
     case 3:
-        if (model.frame == FRAME_NONE) {
-            return NULL;
-        }
-        clocks = model.frame == FRAME_READ ? FRAME_READ_CLOCKS : FRAME_WRITE_CLOCKS;
+        frame_if_none(frame);
+        clocks = frame->kind == POD_FRAME_READ ? FRAME_READ_CLOCKS : FRAME_WRITE_CLOCKS;
         frame->clock = one_in(4) ? 0 : (uint8_t)(clocks + rnd(200));
         return "no such stage of a frame";
     default:

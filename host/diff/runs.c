@@ -59,8 +59,8 @@ static void expect_short_run(const struct model_report *want, const struct pod_r
 void try_run(void)
 {
     const size_t image_length = one_in(6) ? POD_IMAGE_BYTES - 1 + 2 * (size_t)rnd(2) : POD_IMAGE_BYTES;
-    const uint32_t part = maybe_no_part(8);
-    const uint32_t straps = maybe_no_straps(part, 6);
+    const uint32_t part = maybe_no_part(4);
+    const uint32_t straps = maybe_no_straps(part, 4);
     const struct model_times t = maybe_bad_times(6);
     const uint32_t samples = one_in(4) ? 0 : rnd(SHORT);
     uint8_t lent[2 * SHORT + SPARE] = { 0 };

@@ -3,6 +3,7 @@
 
 #include "bus/addresses.h"
 #include "bus/frames.h"
+#include "test/tested.h"
 
 #include <string.h>
 
@@ -120,9 +121,9 @@ static bool locks_are_sound(const struct pod_device *device)
 bool is_sound(const struct pod_device *device)
 {
     const struct pod_controller *controller = &device->controller;
-    return straps_are_allowed(device->part, device->straps) && locks_are_sound(device) && times_are_sound(device->times) &&
-           controller->mode <= POD_MODE_SIGNATURE && (controller->errors & ~POD_STATUS_ERRORS) == 0 &&
-           frame_is_sound(device->part, device->frame) &&
+    return straps_are_allowed(device->part, device->straps) && locks_are_sound(device) &&
+           times_are_sound(device->times) && controller->mode <= POD_MODE_SIGNATURE &&
+           (controller->errors & ~POD_STATUS_ERRORS) == 0 && frame_is_sound(device->part, device->frame) &&
            (controller->outer.kind == POD_OPERATION_NONE || operation_is_sound(controller->outer)) &&
            inner_is_sound(device) && setup_is_sound(device);
 }
@@ -235,14 +236,6 @@ static uint8_t outer_state(enum condition condition)
     }
 }
 
-struct pod_device device_of(uint32_t part, enum condition condition)
-{
-    struct pod_device device = device_in(condition);
-    device.part = (uint8_t)part;
-    device.straps = part == POD_PART_LPC ? 2 : device.straps;
-    return device;
-}
-
 struct pod_device device_in(enum condition condition)
 {
     const struct pod_times times = { .program = 20, .slice = 300, .pause = 10 };
@@ -257,7 +250,7 @@ struct pod_device device_in(enum condition condition)
                                          .left = in_clocks(times.slice) - 7,
                                          .times = times };
     const struct pod_times own = { .program = 10, .slice = 3906, .pause = 30 };
-    struct pod_device device = fresh_device(POD_PART_FWH, 5, own);
+    struct pod_device device = fresh_device(tested.part, tested.straps, own);
     struct pod_operation *outer = &device.controller.outer;
     if (condition == IS_READY) {
         return device;

@@ -38,7 +38,7 @@ struct pod_device fresh_device(uint32_t part, uint32_t straps, struct pod_times 
  * frame its byte where none is fixed and its address where it is not yet whole. */
 struct pod_device meant_by(struct pod_device device);
 
-/* Devices to start from, one of each kind that a sound device can be, with short times. */
+/* Devices to start from, one of each kind that a sound device can be, with short times; of the part that is tested. */
 enum condition {
     IS_READY,
     PROGRAM_RUNS,
@@ -53,8 +53,4 @@ enum condition {
 extern const char *const condition_names[CONDITIONS];
 
 struct pod_device device_in(enum condition condition);
-
-/* The same as a part: with straps 5 on FWH, which is the one above, and straps 2 on LPC. */
-struct pod_device device_of(uint32_t part, enum condition condition);
-
 #endif
