@@ -64,7 +64,8 @@ const char help_trace[] =
     "One line for each frame (the clock that it began on, read or write, the address\n"
     "or the register's name, the byte, what became of it), for each change of a pin,\n"
     "and for each change of the status register that no write brought about.\n"
-    "Clocks are counted from 0.\n"
+    "Clocks are counted from 0. An lpc frame that did not come to say whether it reads\n"
+    "or writes is told as begun.\n"
     "\n" SETTINGS
     "  --vcd FILE                    also write the run as a waveform for GTKWave or sigrok\n"
     "\n"
