@@ -111,10 +111,10 @@ explains
 gives 64 bay sheet write kept --words words --straps 1
 explains
 # a sheet says no part
-gives 64 bay sheet write new.sheet --part lpc
+gives 64 bay sheet write lpc.sheet --part lpc
 explains
 gives 64 bay sheet read usual.sheet --part lpc
 explains
-absent new.sheet
+absent lpc.sheet
 
 finish
