@@ -119,7 +119,7 @@ static void run_bay(const struct rack *rack, unsigned number, struct outcome *ou
     struct load load = { .image = image.text, .stream = stream.text };
     struct settings_options from = { .part = rack->part };
     if (sheet.there) {
-        from = (struct settings_options){ .sheet = sheet.text }; /* and is one of FWH's */
+        from = (struct settings_options){ .sheet = sheet.text }; /* a sheet is one of FWH's */
     }
     out->empty = !image.there && !stream.there;
     if (out->empty) {

@@ -125,7 +125,7 @@ static int sheet_take(const struct settings_options *options, struct settings *o
     }
     if (out->part != POD_PART_FWH) {
         return trouble(TROUBLE_USAGE, "--sheet does not go with --part %s\n"
-                                      "  expected  a sheet for the part that a sheet is of, which is fwh\n"
+                                      "  expected  the part that a sheet is for, which is fwh\n"
                                       "  found     --part %s beside %s\n"
                                       "  do        leave the sheet out, and give its straps and times as options",
                        part_word(out->part), part_word(out->part), options->sheet);

@@ -73,15 +73,15 @@ struct brief brief_status(uint32_t status)
 struct brief brief_stranger(const struct settings *settings, uint32_t address)
 {
     struct brief out = { "" };
-    uint32_t own = address_window(settings->straps);
-    uint32_t window = address & POD_LPC_STRAPS_MOST * (uint32_t)POD_IMAGE_BYTES;
+    const uint32_t windows = POD_LPC_STRAPS_MOST * (uint32_t)POD_IMAGE_BYTES;
+    uint32_t window = address & windows;
     if (settings->part != POD_PART_LPC) {
         return out;
     }
     if ((address & ADDRESS_LPC_HIGH) != ADDRESS_LPC_HIGH) {
         brief_add(&out, "bits 23 to 31 are not all 1");
-    } else if (window != own) {
-        brief_add(&out, "an address of straps %u", POD_LPC_STRAPS_MOST - window / POD_IMAGE_BYTES);
+    } else if (window != address_window(settings->straps)) {
+        brief_add(&out, "an address of straps %u", (unsigned)(POD_LPC_STRAPS_MOST - window / POD_IMAGE_BYTES));
     }
     return out;
 }
