@@ -86,7 +86,7 @@ struct brief brief_stranger(const struct settings *settings, uint32_t address)
     return out;
 }
 
-/* A register's name and address. */
+/* A register's name and address. Maker and device code are FWH's, and no LPC address is one of theirs. */
 static struct brief brief_register(const struct settings *settings, uint32_t address)
 {
     struct brief out = { "" };
@@ -97,9 +97,9 @@ static struct brief brief_register(const struct settings *settings, uint32_t add
         brief_add(&out, "lock of block %u (%0*Xh)", block, digits, (unsigned)address);
     } else if (address == inputs_address(part, settings->straps)) {
         brief_add(&out, "inputs (%0*Xh)", digits, (unsigned)address);
-    } else if (part == POD_PART_FWH && address == ADDRESS_MAKER) {
+    } else if (address == ADDRESS_MAKER) {
         brief_add(&out, "maker (%0*Xh)", digits, (unsigned)address);
-    } else if (part == POD_PART_FWH && address == ADDRESS_DEVICE) {
+    } else if (address == ADDRESS_DEVICE) {
         brief_add(&out, "device code (%0*Xh)", digits, (unsigned)address);
     } else {
         brief_add(&out, "register %0*Xh", digits, (unsigned)address);
