@@ -97,7 +97,7 @@ static void print_tables(void)
            "Million clocks in a second, on streams of %s samples. A ratio above 1 says that the pod is the faster.\n"
            "model_run steps every clock; pod_run takes what it knows by looking ahead at once. In the rows of an erase "
            "begun\n"
-           "a slice takes 3,906 µs, so that none ends in the stream. A row of LPC has the traffic of the row above it,\n"
+           "a slice takes 3,906 µs, so that none ends in the stream. A row of LPC has the traffic of the row above it\n"
            "laid as LPC frames; the last ratio is that of their speeds.\n",
            with_commas(MOST_SAMPLES));
     print_mix();
