@@ -1,20 +1,26 @@
-/* The M50FW080 clock by clock: bus, controller, registers and the calls around them, in plain C. */
+/* The M50FW080 and the M50LPW080 clock by clock: bus, controller, registers and the calls around them, in plain C. */
 #include "model.h"
 
 #include <string.h>
 
 enum {
-    MAKER_CODE = 0x20,
-    DEVICE_CODE = 0x2D,
+    STRAPS_MOST = 15,
+    LPC_STRAPS_MOST = 3,
 
+    MAKER_CODE = 0x20,
+    FWH_DEVICE_CODE = 0x2D,
+    LPC_DEVICE_CODE = 0x2F,
+
+    FWH_ADDRESS = 0xFFFFFFF, /* 28 bits; on LPC it is 32 */
     ADDRESS_ARRAY = 0x0400000, /* bit 22: the address is of the array */
     ADDRESS_IN_ARRAY = 0x00FFFFF,
 
-    REGISTER_LOCKS = 0xFB00002,
-    REGISTER_BLOCK = 0x00F0000, /* where a lock register's address has its block */
-    REGISTER_INPUTS = 0xFBC0100,
-    REGISTER_MAKER = 0xFBC0000,
-    REGISTER_DEVICE = 0xFBC0001,
+    /* From where a part's registers begin. */
+    REGISTER_LOCKS = 0x00002,
+    REGISTER_BLOCK = 0xF0000, /* where a lock register's address has its block */
+    REGISTER_INPUTS = 0xC0100,
+    REGISTER_MAKER = 0xC0000, /* this and the next on FWH only */
+    REGISTER_DEVICE = 0xC0001,
 
     LOCK_WRITE = 1,
     LOCK_DOWN = 2,
@@ -37,6 +43,12 @@ enum {
 };
 
 static const struct model_times default_times = {10, 3906, 30};
+
+/* Where the registers begin: on FWH always here, on LPC so for the boot memory, whose straps are 0, and a window lower
+ * for each further memory of Table 3. */
+static const uint32_t fwh_registers = 0xFB00000;
+static const uint32_t lpc_registers = 0xFFB00000;
+static const uint32_t lpc_window = 0x100000;
 
 /* What each condition shows in the status register, errors aside. */
 static const uint8_t status_of[] = {
@@ -229,55 +241,115 @@ static void command(struct model *m, uint8_t byte)
     }
 }
 
-static bool is_lock(uint32_t address)
+/* How far behind the part's first register an address is; all its bits count. */
+static uint32_t register_at(const struct model *m, uint32_t address)
 {
-    return (address & ~(uint32_t)REGISTER_BLOCK) == REGISTER_LOCKS;
+    return address - (m->part == PART_LPC ? lpc_registers - m->straps * lpc_window : fwh_registers);
 }
 
-static uint32_t lock_block(uint32_t address)
+static bool is_lock(uint32_t at)
 {
-    return (address & REGISTER_BLOCK) >> 16;
+    return (at & ~(uint32_t)REGISTER_BLOCK) == REGISTER_LOCKS;
+}
+
+static uint32_t lock_block(uint32_t at)
+{
+    return at / MODEL_BLOCK_BYTES;
+}
+
+static void write_register(struct model *m, uint32_t at, uint8_t byte)
+{
+    if (is_lock(at) && !(m->locks[lock_block(at)] & LOCK_DOWN))
+        m->locks[lock_block(at)] = byte & LOCK_BITS;
 }
 
 static void write_byte(struct model *m, uint32_t address, uint8_t byte, uint32_t sample)
 {
-    if (address & ADDRESS_ARRAY) {
-        if (m->setup == SETUP_NONE)
-            command(m, byte);
-        else
-            end_setup(m, address & ADDRESS_IN_ARRAY, byte, sample);
-    } else if (is_lock(address)) {
-        uint8_t *lock = &m->locks[lock_block(address)];
-        if (!(*lock & LOCK_DOWN))
-            *lock = byte & LOCK_BITS;
+    if (!(address & ADDRESS_ARRAY))
+        write_register(m, register_at(m, address), byte);
+    else if (m->setup == SETUP_NONE)
+        command(m, byte);
+    else
+        end_setup(m, address & ADDRESS_IN_ARRAY, byte, sample);
+}
+
+static uint8_t read_register(const struct model *m, uint32_t at, uint32_t sample)
+{
+    const bool coded = m->part == PART_FWH;
+
+    if (is_lock(at))
+        return m->locks[lock_block(at)];
+    switch (at) {
+    case REGISTER_INPUTS: return (uint8_t)(sample >> SAMPLE_INPUTS_SHIFT);
+    case REGISTER_MAKER:  return coded ? MAKER_CODE : 0;
+    case REGISTER_DEVICE: return coded ? FWH_DEVICE_CODE : 0;
+    default:              return 0;
     }
 }
 
-static uint8_t read_register(const struct model *m, uint32_t address, uint32_t sample)
+static uint8_t read_signature(const struct model *m, uint32_t place)
 {
-    if (is_lock(address))
-        return m->locks[lock_block(address)];
-    switch (address) {
-    case REGISTER_INPUTS: return (uint8_t)(sample >> SAMPLE_INPUTS_SHIFT);
-    case REGISTER_MAKER:  return MAKER_CODE;
-    case REGISTER_DEVICE: return DEVICE_CODE;
-    default:              return 0;
-    }
+    if (place == 0)
+        return MAKER_CODE;
+    if (place != 1)
+        return 0;
+    return m->part == PART_LPC ? LPC_DEVICE_CODE : FWH_DEVICE_CODE;
 }
 
 static uint8_t read_byte(const struct model *m, const uint8_t *image, uint32_t address, uint32_t sample)
 {
     if (!(address & ADDRESS_ARRAY))
-        return read_register(m, address, sample);
+        return read_register(m, register_at(m, address), sample);
     address &= ADDRESS_IN_ARRAY;
     switch (m->mode) {
     case MODE_STATUS:
         return status(m);
     case MODE_SIGNATURE:
-        return address == 0 ? MAKER_CODE : address == 1 ? DEVICE_CODE : 0;
+        return read_signature(m, address);
     default:
         return m->locks[address / MODEL_BLOCK_BYTES] & LOCK_READ ? 0 : image[address];
     }
+}
+
+/* What a low frame line begins, by the nibble on the lines. */
+static inline uint8_t begun(const struct model *m, uint32_t lines)
+{
+    if (m->part == PART_LPC)
+        return lines == 0x0 ? FRAME_BEGUN : FRAME_NONE;
+    return lines == 0xD ? FRAME_READ : lines == 0xE ? FRAME_WRITE : FRAME_NONE;
+}
+
+/* Clocks 2 to 10 of an FWH frame: the straps, seven nibbles of address and the size. */
+static inline void fwh_head(struct model *m, uint32_t clock, uint32_t lines)
+{
+    if (clock == 2) {
+        if (lines != m->straps)
+            m->frame = FRAME_NONE;
+    } else if (clock < 10) {
+        m->address = (m->address << 4 | lines) & FWH_ADDRESS;
+    } else if (lines != 0) {
+        m->frame = FRAME_NONE;
+    }
+}
+
+/* Whether an LPC address is this part's: A31 to A23 all 1, A21 and A20 each the opposite of its pin, ID1 and ID0. */
+static bool lpc_selected(const struct model *m)
+{
+    const uint32_t pins = ~(m->address >> 20) & 3;
+
+    return m->address >> 23 == 0x1FF && pins == m->straps;
+}
+
+/* Clocks 2 to 10 of an LPC frame: the cycle type, which says the direction, and eight nibbles of address. */
+static inline void lpc_head(struct model *m, uint32_t clock, uint32_t lines)
+{
+    if (clock == 2) {
+        m->frame = lines >> 1 == 2 ? FRAME_READ : lines >> 1 == 3 ? FRAME_WRITE : FRAME_NONE;
+        return;
+    }
+    m->address = m->address << 4 | lines;
+    if (clock == 10 && !lpc_selected(m))
+        m->frame = FRAME_NONE;
 }
 
 /* Step 3: one clock of the bus. */
@@ -286,7 +358,7 @@ static inline uint8_t bus(struct model *m, const uint8_t *image, uint32_t sample
     const uint32_t lines = sample & SAMPLE_LINES;
 
     if (!(sample & SAMPLE_FRAME)) {
-        m->frame = lines == 0xD ? FRAME_READ : lines == 0xE ? FRAME_WRITE : FRAME_NONE;
+        m->frame = begun(m, lines);
         m->clock = 1;
         m->address = 0;
         return 0;
@@ -296,14 +368,10 @@ static inline uint8_t bus(struct model *m, const uint8_t *image, uint32_t sample
 
     const uint8_t clock = ++m->clock;
     if (clock <= 10) {
-        if (clock == 2) {
-            if (lines != m->straps)
-                m->frame = FRAME_NONE;
-        } else if (clock < 10) {
-            m->address = m->address << 4 | lines;
-        } else if (lines != 0) {
-            m->frame = FRAME_NONE;
-        }
+        if (m->part == PART_LPC)
+            lpc_head(m, clock, lines);
+        else
+            fwh_head(m, clock, lines);
         return 0;
     }
     if (m->frame == FRAME_READ) {
@@ -344,11 +412,23 @@ static bool class_three(uint32_t sample)
     return (sample & SAMPLE_CLASS) == SAMPLE_CLASS;
 }
 
-uint32_t model_power_up(struct model *m, uint32_t straps, struct model_times times)
+static bool straps_allowed(uint32_t part, uint32_t straps)
 {
-    const uint32_t number = straps > 15 ? NUMBER_STRAPS : !times_in_range(times) ? NUMBER_TIME : NUMBER_DONE;
+    switch (part) {
+    case PART_FWH: return straps <= STRAPS_MOST;
+    case PART_LPC: return straps <= LPC_STRAPS_MOST;
+    default:       return false;
+    }
+}
+
+uint32_t model_power_up(struct model *m, uint32_t part, uint32_t straps, struct model_times times)
+{
+    const uint32_t number = !straps_allowed(part, straps) ? NUMBER_STRAPS
+                            : !times_in_range(times)      ? NUMBER_TIME
+                                                          : NUMBER_DONE;
 
     memset(m, 0, sizeof *m);
+    m->part = number == NUMBER_DONE ? (uint8_t)part : PART_FWH;
     m->straps = number == NUMBER_DONE ? (uint8_t)straps : 0;
     m->times = number == NUMBER_DONE ? times : default_times;
     reset(m);
@@ -401,13 +481,14 @@ static uint32_t sample_at(const uint8_t *stream, size_t n)
 }
 
 struct model_report model_run(uint8_t *image, size_t image_len, const uint8_t *stream, size_t stream_len,
-                              uint8_t *answers, size_t answers_len, uint32_t straps, struct model_times times)
+                              uint8_t *answers, size_t answers_len, uint32_t part, uint32_t straps,
+                              struct model_times times)
 {
     const size_t samples = stream_len / 2;
     struct model_report report = {0, 0, 0, 0};
     struct model m;
 
-    report.number = image_len != MODEL_IMAGE_BYTES ? NUMBER_IMAGE : model_power_up(&m, straps, times);
+    report.number = image_len != MODEL_IMAGE_BYTES ? NUMBER_IMAGE : model_power_up(&m, part, straps, times);
     if (report.number != NUMBER_DONE)
         return report;
     if (stream_len % 2 != 0 || stream_len > MODEL_STREAM_BYTES) {
@@ -472,7 +553,7 @@ struct model_sheet model_sheet_read(const uint8_t *sheet, size_t sheet_len)
         return read;
     }
     const struct model_times times = {two_bytes(sheet + 7), two_bytes(sheet + 9), two_bytes(sheet + 11)};
-    if (sheet[3] > 15) {
+    if (sheet[3] > STRAPS_MOST) {
         read.number = NUMBER_STRAPS;
     } else if (!times_in_range(times)) {
         read.number = NUMBER_TIME;
@@ -485,7 +566,7 @@ struct model_sheet model_sheet_read(const uint8_t *sheet, size_t sheet_len)
 
 uint32_t model_sheet_write(uint8_t *buffer, size_t buffer_len, uint32_t straps, struct model_times times)
 {
-    if (straps > 15)
+    if (straps > STRAPS_MOST)
         return NUMBER_STRAPS;
     if (!times_in_range(times))
         return NUMBER_TIME;

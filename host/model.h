@@ -1,5 +1,5 @@
-/* A model of the M50FW080 on its Firmware Hub interface, written by hand in plain C as a second opinion on the proved
- * one: same calls, same numbered answers, nothing shared. */
+/* A model of the M50FW080 on its Firmware Hub interface and of the M50LPW080 on its LPC interface, written by hand in
+ * plain C as a second opinion on the proved one: same calls, same numbered answers, nothing shared. */
 #ifndef MODEL_H
 #define MODEL_H
 
@@ -45,6 +45,9 @@ enum {
     NUMBER_STILL_BUSY = 10
 };
 
+/* The parts: the M50FW080 and the M50LPW080. */
+enum model_part_number { PART_FWH, PART_LPC };
+
 /* The controller's condition: the rows of the command table. */
 enum model_condition {
     READY,
@@ -57,7 +60,12 @@ enum model_condition {
 
 enum model_mode { MODE_ARRAY, MODE_STATUS, MODE_SIGNATURE };
 enum model_setup { SETUP_NONE, SETUP_PROGRAM, SETUP_ERASE };
-enum model_frame { FRAME_NONE, FRAME_READ, FRAME_WRITE };
+enum model_frame {
+    FRAME_NONE,
+    FRAME_READ,
+    FRAME_WRITE,
+    FRAME_BEGUN /* an LPC frame before its cycle type, at clock 1 */
+};
 
 /* Three times in microseconds. */
 struct model_times {
@@ -68,6 +76,7 @@ struct model_times {
  * of the two records stand, and `erasing` which of them is the one that runs or pauses. */
 struct model {
     struct model_times times;
+    uint8_t part; /* model_part_number */
     uint8_t straps;
     uint8_t locks[MODEL_BLOCKS];
 
@@ -111,8 +120,8 @@ struct model_part {
     uint32_t from, start, length; /* from: 0 the page's empty front, 1 the image, 2 the page */
 };
 
-/* Power up. Refused, `m` is the part with straps 0 and the times 10, 3,906 and 30. */
-uint32_t model_power_up(struct model *m, uint32_t straps, struct model_times times);
+/* Power up. Refused, `m` is an M50FW080 with straps 0 and the times 10, 3,906 and 30. */
+uint32_t model_power_up(struct model *m, uint32_t part, uint32_t straps, struct model_times times);
 
 /* Set the times of operations accepted later. */
 uint32_t model_set_times(struct model *m, struct model_times times);
@@ -126,12 +135,14 @@ uint32_t model_settle(struct model *m, uint8_t *image, size_t image_len, uint16_
 
 /* A fresh part, stepped through all samples of a stream. */
 struct model_report model_run(uint8_t *image, size_t image_len, const uint8_t *stream, size_t stream_len,
-                              uint8_t *answers, size_t answers_len, uint32_t straps, struct model_times times);
+                              uint8_t *answers, size_t answers_len, uint32_t part, uint32_t straps,
+                              struct model_times times);
 
 /* Which part of the image, or of a lent page of zeros, shows a block. */
 struct model_part model_view(const struct model *m, size_t image_len, const uint8_t *page, size_t page_len,
                              uint32_t block);
 
+/* A sheet names no part: it is one of the M50FW080. */
 struct model_sheet model_sheet_read(const uint8_t *sheet, size_t sheet_len);
 uint32_t model_sheet_write(uint8_t *buffer, size_t buffer_len, uint32_t straps, struct model_times times);
 

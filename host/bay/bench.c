@@ -6,10 +6,10 @@
 
 void bench_power_up(struct bench *bench, const struct settings *settings)
 {
-    struct pod_powered up = pod_power_up(settings->straps, settings->program, settings->slice, settings->pause);
+    struct pod_powered up =
+        pod_power_up(settings->part, settings->straps, settings->program, settings->slice, settings->pause);
     bench->device = up.device;
     bench->refusal = up.number;
-    bench->select = (uint8_t)(settings->straps & POD_STRAPS_MOST);
     bench->clock = 0;
     if (up.number == POD_DONE) {
         /* no sample is taken, but image and pins are looked at */
@@ -34,13 +34,13 @@ static uint8_t lay(struct bench *bench, const struct frame *frame)
 
 uint8_t bench_read(struct bench *bench, uint32_t address)
 {
-    struct frame frame = frame_read(bench->select, address);
+    struct frame frame = frame_read(bench->device.part, bench->device.straps, address);
     return lay(bench, &frame);
 }
 
 void bench_write(struct bench *bench, uint32_t address, uint8_t byte)
 {
-    struct frame frame = frame_write(bench->select, address, byte);
+    struct frame frame = frame_write(bench->device.part, bench->device.straps, address, byte);
     (void)lay(bench, &frame);
 }
 

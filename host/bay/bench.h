@@ -16,7 +16,6 @@ struct bench {
     uint8_t *image;
     size_t image_length;
     uint16_t idle;
-    uint8_t select;
     uint64_t clock;
     uint32_t refusal;
 };
@@ -24,7 +23,7 @@ struct bench {
 /* Powers the part up with its bus at rest. The library's word on settings, image and pins is in `refusal`. */
 void bench_power_up(struct bench *bench, const struct settings *settings);
 
-/* One frame each. A byte that nobody drives reads FFh. */
+/* One frame each, of the part that was powered up. A byte that nobody drives reads FFh. */
 uint8_t bench_read(struct bench *bench, uint32_t address);
 void bench_write(struct bench *bench, uint32_t address, uint8_t byte);
 

@@ -22,7 +22,7 @@ enum {
     NAP = 150000    /* clocks for which the paused bay erases before its pause */
 };
 
-static const struct settings bay_settings = { 0, 10, 100, 30 };
+static const struct settings bay_settings = { POD_PART_FWH, 0, 10, 100, 30 };
 
 /* What one bay went through. blank_at_pull: bytes that the erase had filled when the pin fell; kept: bytes of the old
  * firmware at the end; elsewhere: other blocks that have changed. */
@@ -70,13 +70,19 @@ static void rest_until(struct bench *bench, uint64_t clock)
     }
 }
 
+/* Where a frame finds the block's first byte. */
+static uint32_t front_of(unsigned block)
+{
+    return array_address(bay_settings.part, bay_settings.straps, block * POD_BLOCK_BYTES);
+}
+
 /* The updater's way to erase a block, begun on the clock that the night says. */
 static void erase(struct bench *bench, struct night *night)
 {
     rest_until(bench, night->begun);
-    bench_write(bench, lock_address(night->block), 0);
-    bench_write(bench, array_address(night->block * POD_BLOCK_BYTES), COMMAND_ERASE);
-    bench_write(bench, array_address(night->block * POD_BLOCK_BYTES), COMMAND_RESUME);
+    bench_write(bench, lock_address(bay_settings.part, bay_settings.straps, night->block), 0);
+    bench_write(bench, front_of(night->block), COMMAND_ERASE);
+    bench_write(bench, front_of(night->block), COMMAND_RESUME);
     night->begun = bench->clock;
 }
 
@@ -90,13 +96,13 @@ static void live(struct bench *bench, const struct stock *stock, struct night *n
     }
     if (pauses) {
         rest_until(bench, night->begun + NAP);
-        bench_write(bench, array_address(night->block * POD_BLOCK_BYTES), COMMAND_SUSPEND);
+        bench_write(bench, front_of(night->block), COMMAND_SUSPEND);
     }
     rest_until(bench, PULL);
     night->blank_at_pull = blank_bytes(bench, stock->page, night->block);
     bench->idle = sample_set(bench->idle, POD_SAMPLE_WP, 0);
     if (pauses) {
-        bench_write(bench, array_address(night->block * POD_BLOCK_BYTES), COMMAND_RESUME);
+        bench_write(bench, front_of(night->block), COMMAND_RESUME);
     }
     if (!early) {
         erase(bench, night);

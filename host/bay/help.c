@@ -4,15 +4,17 @@
 #include "bay/help.h"
 
 #define SETTINGS                                                                                       \
-    "  --straps N                    the four strap pins as a number (usually 0)\n"                    \
+    "  --part fwh|lpc                the M50FW080 or the M50LPW080 (usually fwh)\n"                    \
+    "  --straps N                    the strap pins as a number, 0 to 15, on lpc 0 to 3\n"             \
+    "                                (usually 0)\n"                                                    \
     "  --times PROGRAM,SLICE,PAUSE   three times, in microseconds (usually 10,3906,30)\n"              \
-    "  --sheet FILE                  straps and times from a bay sheet instead\n"
+    "  --sheet FILE                  straps and times from a bay sheet instead, for fwh\n"
 
 #define STATUSES "The exit status is 0 when done; bay --help has the others.\n"
 #define NOTHING_CHANGED "On an error no file is changed, unless the message says so.\n"
 
 const char help_bay[] =
-    "bay: an M50FW080 flash part on the bench, clock by clock\n"
+    "bay: an M50FW080 or M50LPW080 flash part on the bench, clock by clock\n"
     "\n"
     "  bay demo                      the night that cost two boards, in seconds\n"
     "  bay run IMAGE STREAM          run a stream of samples on a copy of an image\n"
@@ -62,7 +64,8 @@ const char help_trace[] =
     "One line for each frame (the clock that it began on, read or write, the address\n"
     "or the register's name, the byte, what became of it), for each change of a pin,\n"
     "and for each change of the status register that no write brought about.\n"
-    "Clocks are counted from 0.\n"
+    "Clocks are counted from 0. An lpc frame that did not come to say whether it reads\n"
+    "or writes is told as begun.\n"
     "\n" SETTINGS
     "  --vcd FILE                    also write the run as a waveform for GTKWave or sigrok\n"
     "\n"
@@ -85,8 +88,9 @@ const char help_rack[] =
     "bay rack FOLDER [options]: twelve bays side by side under one harness\n"
     "\n"
     "FOLDER has bay01.img and bay01.stream to bay12.img and bay12.stream, and may have\n"
-    "bay01.sheet to bay12.sheet with straps and times. A bay with neither image nor\n"
-    "stream is empty. What is wrong with one bay does not stop the others.\n"
+    "bay01.sheet to bay12.sheet with straps and times, for the fwh part. A bay with\n"
+    "neither image nor stream is empty. What is wrong with one bay does not stop the\n"
+    "others.\n"
     "\n"
     "The harness track is text. From the clock that a line names, the pins that it\n"
     "names are so in all twelve streams, whatever the streams say:\n"
@@ -94,6 +98,7 @@ const char help_rack[] =
     "    at 0     voltage 1 wp high tbl high\n"
     "    at 1200  wp low                      # clocks do not fall from line to line\n"
     "\n"
+    "  --part fwh|lpc                the part of the bays without a sheet (usually fwh)\n"
     "  --harness FILE                the track (usually FOLDER/harness.track, if there)\n"
     "  --save FOLDER                 write bay01.img to bay12.img as the run left them\n"
     "  --seconds SECONDS             end a bay that takes so long (usually 120)\n"
@@ -106,10 +111,10 @@ const char help_rack[] =
 const char help_serve[] =
     "bay serve --port N IMAGE [options]: let flashrom at the part\n"
     "\n"
-    "Speaks flashrom's serprog protocol (bus type FWH) on 127.0.0.1, to one client at a\n"
-    "time. The part stays powered from client to client. After each client, once the\n"
-    "part is ready, IMAGE is replaced if it has changed. SIGINT, SIGTERM or\n"
-    "SIGHUP ends the server the same way. While it lives no other bay writes IMAGE: one\n"
+    "Speaks flashrom's serprog protocol (bus type FWH or LPC, by the part) on 127.0.0.1,\n"
+    "to one client at a time. The part stays powered from client to client. After each\n"
+    "client, once the part is ready, IMAGE is replaced if it has changed. SIGINT, SIGTERM\n"
+    "or SIGHUP ends the server the same way. While it lives no other bay writes IMAGE: one\n"
     "that would gets status 73.\n"
     "\n"
     "  --port N                      the port; 0 takes a free one and says which\n"
@@ -123,6 +128,7 @@ const char help_serve[] =
     "  --rest MICROSECONDS           the bus rests so long before each request, as it\n"
     "                                does behind a slow line (usually 100)\n" SETTINGS
     "\n"
+    "flashrom looks at the top of the address space, where an lpc part is with straps 0.\n"
     "A client that sends a byte now and then is not silent; --seconds bounds it too.\n"
     "Where no client can be let in for ten seconds, for want of open files or memory,\n"
     "the server ends with status 71.\n"
@@ -130,11 +136,14 @@ const char help_serve[] =
     "At any end the image is saved, if a client changed it.\n"
     "\n"
     "Example:  bay serve --port 4000 board.img\n"
-    "and then  flashrom -p serprog:ip=127.0.0.1:4000 -c M50FW080 -r read.img\n";
+    "and then  flashrom -p serprog:ip=127.0.0.1:4000 -c M50FW080 -r read.img\n"
+    "(with --part lpc it is -c M50LPW080)\n";
 
 const char help_sheet[] =
     "bay sheet read SHEET: a bay sheet's thirteen bytes in words\n"
     "bay sheet write SHEET [options]: a bay sheet from words\n"
+    "\n"
+    "A sheet says no part: it is one of the fwh part's.\n"
     "\n"
     "  --straps N                    the four strap pins as a number (usually 0)\n"
     "  --times PROGRAM,SLICE,PAUSE   three times, in microseconds (usually 10,3906,30)\n"

@@ -31,7 +31,7 @@ int load_run(struct load *load, struct pod_report *report)
     load->answers = must_have(room);
     memcpy(load->after, load->before.at, load->before.length);
     *report = pod_run(load->after, load->before.length, load->samples.at, load->samples.length, load->answers, room,
-                      s->straps, s->program, s->slice, s->pause);
+                      s->part, s->straps, s->program, s->slice, s->pause);
     if (report->number == POD_DONE) {
         return 0;
     }

@@ -26,15 +26,18 @@ enum { BAYS = 12, USUAL_SECONDS = 120, MOST_SECONDS = 3600 };
 struct outcome {
     int status;
     bool empty;
+    uint32_t part;
     struct pod_report report;
     uint32_t changed;
     char words[1024];
 };
 _Static_assert(sizeof(struct outcome) <= PIPE_BUF, "an outcome arrives in one piece");
 
+/* part: the word for the part of the bays that have no sheet, null where none was given. */
 struct rack {
     const char *folder;
     const char *save;
+    const char *part;
     uint32_t seconds;
     struct track track;
 };
@@ -114,12 +117,16 @@ static void run_bay(const struct rack *rack, unsigned number, struct outcome *ou
     struct name stream = file_in(rack->folder, number, "stream");
     struct name sheet = file_in(rack->folder, number, "sheet");
     struct load load = { .image = image.text, .stream = stream.text };
-    struct settings_options from = { .sheet = sheet.there ? sheet.text : NULL };
+    struct settings_options from = { .part = rack->part };
+    if (sheet.there) {
+        from = (struct settings_options){ .sheet = sheet.text }; /* a sheet is one of FWH's */
+    }
     out->empty = !image.there && !stream.there;
     if (out->empty) {
         return;
     }
     out->status = load_begin(&load, &from);
+    out->part = load.settings.part;
     if (out->status == 0) {
         track_lay(&rack->track, load.samples.at, load.samples.length / 2);
         out->status = load_run(&load, &out->report);
@@ -264,9 +271,9 @@ static void tell_row(struct text *text, unsigned number, const struct outcome *o
     } else if (outcome->status != 0) {
         text_add(text, "%3u  %s %d\n", number, outcome->status < TROUBLE_USAGE ? "refusal" : "trouble", outcome->status);
     } else {
-        text_add(text, "%3u  done     %7s  %-36s  %-8s", number, counted(outcome->report.samples).text,
-                 brief_status(outcome->report.status).text, brief_blocks(outcome->report.marks).text);
-        text_add(text, "  %s\n", brief_blocks(outcome->changed).text);
+        text_add(text, "%3u  done     %-4s  %7s  %-36s", number, part_word(outcome->part),
+                 counted(outcome->report.samples).text, brief_status(outcome->report.status).text);
+        text_add(text, "  %-8s  %s\n", brief_blocks(outcome->report.marks).text, brief_blocks(outcome->changed).text);
     }
 }
 
@@ -276,7 +283,7 @@ static int tell_rack(struct text *text, const struct bay *bays)
     int lowest = 0;
     unsigned done = 0;
     unsigned empty = 0;
-    text_add(text, "bay  outcome  samples  status                                spoiled   changed\n");
+    text_add(text, "bay  outcome  part  samples  status                                spoiled   changed\n");
     for (unsigned i = 0; i < BAYS; i++) {
         const struct outcome *outcome = &bays[i].outcome;
         tell_row(text, i + 1, outcome);
@@ -349,7 +356,9 @@ int command_rack(int count, char **words)
     struct rack rack = { .seconds = USUAL_SECONDS };
     const char *harness = NULL;
     const char *seconds = NULL;
+    uint32_t part = POD_PART_FWH;
     const struct option options[] = {
+        { "--part", &rack.part, NULL },
         { "--harness", &harness, NULL },
         { "--save", &rack.save, NULL },
         { "--seconds", &seconds, NULL },
@@ -357,6 +366,9 @@ int command_rack(int count, char **words)
     const struct place places[] = { { "FOLDER", &rack.folder } };
     const struct line line = { options, sizeof options / sizeof options[0], places, 1 };
     int status = options_take(&line, count, words);
+    if (status == 0) {
+        status = part_take(rack.part, &part); /* a word that is none is told once, and not by each bay */
+    }
     if (status == 0 && seconds != NULL) {
         status = number_within("--seconds", seconds, (struct bounds){ 1, MOST_SECONDS }, &rack.seconds);
     }

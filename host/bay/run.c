@@ -43,11 +43,11 @@ static int run_and_tell(struct load *load, const struct results *to)
 int command_run(int count, char **words)
 {
     struct load load = { .image = NULL };
-    struct settings_options from = { NULL, NULL, NULL };
+    struct settings_options from = { .part = NULL };
     struct results to = { NULL, NULL };
     const struct option options[] = {
-        { "--straps", &from.straps, NULL },  { "--times", &from.times, NULL }, { "--sheet", &from.sheet, NULL },
-        { "--answers", &to.answers, NULL }, { "--save", &to.save, NULL },
+        { "--part", &from.part, NULL },   { "--straps", &from.straps, NULL },  { "--times", &from.times, NULL },
+        { "--sheet", &from.sheet, NULL }, { "--answers", &to.answers, NULL }, { "--save", &to.save, NULL },
     };
     const struct place places[] = { { "IMAGE", &load.image }, { "STREAM", &load.stream } };
     const struct line line = { options, sizeof options / sizeof options[0], places, 2 };

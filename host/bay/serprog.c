@@ -1,6 +1,7 @@
 /* Requests of a serprog client, turned into frames and rests on the bench. */
 #include "bay/serprog.h"
 
+#include "bus/addresses.h"
 #include "bus/pins.h"
 
 #include <string.h>
@@ -8,6 +9,7 @@
 enum {
     ACK = 0x06,
     NAK = 0x15,
+    BUS_LPC = 0x02,
     BUS_FWH = 0x04,
     OP_WRITE_BYTE = 0x0C,
     OP_WRITE_BYTES = 0x0D,
@@ -22,11 +24,11 @@ static uint32_t number24(const uint8_t *three)
     return (uint32_t)three[0] | (uint32_t)three[1] << 8 | (uint32_t)three[2] << 16;
 }
 
-/* A client sends 24 bits of an address in the top 16 megabytes; the frame's four bits above them are all ones. Behind
- * the last of these addresses the first one follows. */
-static uint32_t frame_address(const uint8_t *three, uint32_t further)
+/* A client sends 24 bits of an address in the top 16 megabytes; the frame's bits above them, as many as the part has,
+ * are all ones. Behind the last of these addresses the first one follows. */
+static uint32_t frame_address(const struct bench *bench, const uint8_t *three, uint32_t further)
 {
-    return 0xF000000U | ((number24(three) + further) & 0xFFFFFFU);
+    return (address_most(bench->device.part) & ~0xFFFFFFU) | ((number24(three) + further) & 0xFFFFFFU);
 }
 
 static void put24(uint8_t *three, uint32_t number)
@@ -70,9 +72,12 @@ static bool ask_map(struct serprog *s, const uint8_t *p);
 
 static bool ask_name(struct serprog *s, const uint8_t *p)
 {
-    static const uint8_t name[NAME_BYTES] = "bay M50FW080";
+    static const uint8_t names[][NAME_BYTES] = {
+        [POD_PART_FWH] = "bay M50FW080",
+        [POD_PART_LPC] = "bay M50LPW080",
+    };
     (void)p;
-    return give_answer(s, name, sizeof name);
+    return give_answer(s, names[s->bench->device.part], NAME_BYTES);
 }
 
 static bool ask_line_buffer(struct serprog *s, const uint8_t *p)
@@ -82,9 +87,15 @@ static bool ask_line_buffer(struct serprog *s, const uint8_t *p)
     return give_answer(s, no_limit, sizeof no_limit);
 }
 
+/* The bus of the part in the socket. */
+static uint8_t bus_of(const struct serprog *s)
+{
+    return s->bench->device.part == POD_PART_LPC ? BUS_LPC : BUS_FWH;
+}
+
 static bool ask_bus(struct serprog *s, const uint8_t *p)
 {
-    static const uint8_t bus = BUS_FWH;
+    const uint8_t bus = bus_of(s);
     (void)p;
     return give_answer(s, &bus, 1);
 }
@@ -114,13 +125,13 @@ static bool ask_read_most(struct serprog *s, const uint8_t *p)
 
 static bool choose_bus(struct serprog *s, const uint8_t *p)
 {
-    return give_byte(s, (p[0] & BUS_FWH) != 0 ? ACK : NAK);
+    return give_byte(s, (p[0] & bus_of(s)) != 0 ? ACK : NAK);
 }
 
 static bool read_byte(struct serprog *s, const uint8_t *p)
 {
     bench_rest(s->bench, s->rest);
-    uint8_t byte = bench_read(s->bench, frame_address(p, 0));
+    uint8_t byte = bench_read(s->bench, frame_address(s->bench, p, 0));
     return give_answer(s, &byte, 1);
 }
 
@@ -133,7 +144,7 @@ static bool read_bytes(struct serprog *s, const uint8_t *p)
     bench_rest(s->bench, s->rest);
     bool holds = give_byte(s, ACK);
     for (uint32_t i = 0; i < length && holds; i++) {
-        holds = give_byte(s, bench_read(s->bench, frame_address(p, i)));
+        holds = give_byte(s, bench_read(s->bench, frame_address(s->bench, p, i)));
     }
     return holds;
 }
@@ -202,7 +213,7 @@ static size_t carry_out(struct bench *bench, const uint8_t *at)
 {
     const uint8_t *p = at + 1;
     if (at[0] == OP_WRITE_BYTE) {
-        bench_write(bench, frame_address(p, 0), p[3]);
+        bench_write(bench, frame_address(bench, p, 0), p[3]);
         return 5;
     }
     if (at[0] == OP_DELAY) {
@@ -211,7 +222,7 @@ static size_t carry_out(struct bench *bench, const uint8_t *at)
     }
     uint32_t length = number24(p);
     for (uint32_t i = 0; i < length; i++) {
-        bench_write(bench, frame_address(p + 3, i), p[6 + i]);
+        bench_write(bench, frame_address(bench, p + 3, i), p[6 + i]);
     }
     return 7 + length;
 }

@@ -1,4 +1,4 @@
-/* flashrom's serprog protocol, version 1, for a programmer with one Firmware Hub socket. */
+/* flashrom's serprog protocol, version 1, for a programmer with one socket, of the Firmware Hub or of the LPC bus. */
 #ifndef BAY_SERPROG_H
 #define BAY_SERPROG_H
 

@@ -420,15 +420,16 @@ static int check(const struct asked *asked, const struct server *server)
 int command_serve(int count, char **words)
 {
     struct server server = { .clients = USUAL_CLIENTS, .idle = USUAL_IDLE, .seconds = USUAL_SECONDS, .rest = USUAL_REST };
-    struct settings_options from = { NULL, NULL, NULL };
+    struct settings_options from = { .part = NULL };
     struct asked asked = { .once = false };
     const struct option options[] = {
         { "--port", &asked.port, NULL },       { "--wp", &asked.wp, NULL },
         { "--tbl", &asked.tbl, NULL },         { "--voltage", &asked.voltage, NULL },
         { "--clients", &asked.clients, NULL }, { "--idle", &asked.idle, NULL },
         { "--seconds", &asked.seconds, NULL }, { "--rest", &asked.rest, NULL },
-        { "--straps", &from.straps, NULL },    { "--times", &from.times, NULL },
-        { "--sheet", &from.sheet, NULL },      { "--once", NULL, &asked.once },
+        { "--part", &from.part, NULL },        { "--straps", &from.straps, NULL },
+        { "--times", &from.times, NULL },      { "--sheet", &from.sheet, NULL },
+        { "--once", NULL, &asked.once },
     };
     const struct place places[] = { { "IMAGE", &server.image } };
     const struct line line = { options, sizeof options / sizeof options[0], places, 1 };

@@ -1,4 +1,4 @@
-/* Straps and times from options or from a bay sheet. */
+/* Part, straps and times from options or from a bay sheet. */
 #include "bay/settings.h"
 
 #include "bay/files.h"
@@ -11,7 +11,44 @@
 
 enum { SHEET_MOST = 4096 };
 
-static const struct settings usual = { 0, 10, 3906, 30 };
+static const struct settings usual = { POD_PART_FWH, 0, 10, 3906, 30 };
+
+static const struct {
+    const char *word;
+    uint32_t straps_most;
+} parts[] = {
+    [POD_PART_FWH] = { "fwh", POD_STRAPS_MOST },
+    [POD_PART_LPC] = { "lpc", POD_LPC_STRAPS_MOST },
+};
+enum { PARTS = sizeof parts / sizeof parts[0] };
+
+const char *part_word(uint32_t part)
+{
+    return parts[part].word;
+}
+
+uint32_t straps_most(uint32_t part)
+{
+    return parts[part].straps_most;
+}
+
+int part_take(const char *word, uint32_t *out)
+{
+    if (word == NULL) {
+        return 0;
+    }
+    for (uint32_t part = 0; part < PARTS; part++) {
+        if (strcmp(word, parts[part].word) == 0) {
+            *out = part;
+            return 0;
+        }
+    }
+    return trouble(TROUBLE_USAGE, "--part is neither fwh nor lpc\n"
+                                  "  expected  fwh for the M50FW080, lpc for the M50LPW080\n"
+                                  "  found     %s\n"
+                                  "  do        give it as in --part lpc",
+                   word);
+}
 
 /* The digits at the front of the words, and where they end. */
 static const char *digits(const char *words, uint32_t *out)
@@ -72,29 +109,43 @@ int settings_from_sheet(const char *path, struct settings *out)
         status = refused(read.number,
                          &(struct facts){ .sheet = path, .sheet_bytes = sheet.at, .sheet_length = sheet.length });
     }
-    *out = (struct settings){ read.straps, read.program, read.slice, read.pause };
+    *out = (struct settings){ POD_PART_FWH, read.straps, read.program, read.slice, read.pause };
     bytes_free(&sheet);
     return status;
+}
+
+/* Where a sheet is named: straps and times are its own, and the part is FWH's. */
+static int sheet_take(const struct settings_options *options, struct settings *out)
+{
+    if (options->straps != NULL || options->times != NULL) {
+        return trouble(TROUBLE_USAGE, "--sheet does not go with --straps or --times\n"
+                                      "  expected  straps and times from one place\n"
+                                      "  found     a sheet and an option beside it\n"
+                                      "  do        leave one of them out");
+    }
+    if (out->part != POD_PART_FWH) {
+        return trouble(TROUBLE_USAGE, "--sheet does not go with --part %s\n"
+                                      "  expected  the part that a sheet is for, which is fwh\n"
+                                      "  found     --part %s beside %s\n"
+                                      "  do        leave the sheet out, and give its straps and times as options",
+                       part_word(out->part), part_word(out->part), options->sheet);
+    }
+    return settings_from_sheet(options->sheet, out);
 }
 
 int settings_take(const struct settings_options *options, struct settings *out)
 {
     *out = usual;
-    if (options->sheet != NULL) {
-        if (options->straps != NULL || options->times != NULL) {
-            return trouble(TROUBLE_USAGE, "--sheet does not go with --straps or --times\n"
-                                          "  expected  straps and times from one place\n"
-                                          "  found     a sheet and an option beside it\n"
-                                          "  do        leave one of them out");
-        }
-        return settings_from_sheet(options->sheet, out);
+    int status = part_take(options->part, &out->part);
+    if (status != 0 || options->sheet != NULL) {
+        return status != 0 ? status : sheet_take(options, out);
     }
     if (options->straps != NULL && !number_take(options->straps, &out->straps)) {
         return trouble(TROUBLE_USAGE, "--straps is not a number\n"
-                                      "  expected  a whole number, 0 to %d\n"
+                                      "  expected  a whole number, 0 to %u\n"
                                       "  found     %s\n"
                                       "  do        give it as in --straps 3",
-                       POD_STRAPS_MOST, options->straps);
+                       (unsigned)straps_most(out->part), options->straps);
     }
     if (options->times != NULL && !times_take(options->times, out)) {
         return trouble(TROUBLE_USAGE, "--times is not three numbers\n"

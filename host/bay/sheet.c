@@ -103,7 +103,7 @@ static int sheet_write(int count, char **words)
 {
     const char *path = NULL;
     const char *told = NULL;
-    struct settings_options from = { NULL, NULL, NULL };
+    struct settings_options from = { .part = NULL };
     const struct option options[] = {
         { "--straps", &from.straps, NULL },
         { "--times", &from.times, NULL },

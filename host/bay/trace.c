@@ -13,6 +13,7 @@
 
 /* What the trace holds from clock to clock. acted: the status on either side of the clock on which a write acts. */
 struct tracer {
+    const struct settings *settings;
     struct text text;
     struct watched watched;
     size_t began;
@@ -55,14 +56,30 @@ static void tell_act(struct tracer *tracer)
     }
 }
 
+/* Whether it is an LPC frame without one of the two cycle types: before its clock 2, or with another one there. */
+static bool has_no_type(const struct frame *frame)
+{
+    unsigned type = frame->select & ~(unsigned)FRAME_TYPE_FREE;
+    return frame->part == POD_PART_LPC && type != FRAME_TYPE_READ && type != FRAME_TYPE_WRITE;
+}
+
+static const char *kind_of(const struct frame *frame)
+{
+    if (has_no_type(frame)) {
+        return "begun";
+    }
+    return frame->write ? "write" : "read";
+}
+
 /* The frame that is over, from what was seen of it: `how` says how it ended. */
 static void tell_frame(struct tracer *tracer, const char *how)
 {
     const struct watched *watched = &tracer->watched;
     const struct frame *frame = &watched->frame;
     unsigned byte_at = frame->write ? FRAME_CLOCK_ACT : FRAME_CLOCK_READ + 1;
-    text_add(&tracer->text, "clock %6zu  %-5s  ", tracer->began, frame->write ? "write" : "read");
-    text_add(&tracer->text, "%-28s  ", watched->clock >= FRAME_CLOCK_SIZE - 1 ? brief_address(frame->address).text : "-");
+    bool whole_address = watched->clock >= frame_address_end(frame->part);
+    text_add(&tracer->text, "clock %6zu  %-5s  ", tracer->began, kind_of(frame));
+    text_add(&tracer->text, "%-28s  ", whole_address ? brief_address(tracer->settings, frame->address).text : "-");
     if (watched->clock >= byte_at && (frame->write || watched->answered)) {
         text_add(&tracer->text, "%02Xh  ", frame->byte);
     } else {
@@ -81,6 +98,10 @@ static void tell_whole_frame(struct tracer *tracer)
     const struct frame *frame = &tracer->watched.frame;
     if (tracer->watched.answered) {
         text_add(&how, "answered");
+    } else if (has_no_type(frame)) {
+        text_add(&how, "dropped (cycle type %Xh)", frame->select);
+    } else if (frame->part == POD_PART_LPC) {
+        text_add(&how, "not answered (%s)", brief_stranger(tracer->settings, frame->address).text);
     } else {
         text_add(&how, "not answered (device select %u, size %u)", frame->select, frame->size);
     }
@@ -112,7 +133,7 @@ static bool follow_bus(struct tracer *tracer, const struct happened *now)
     }
     if (low) {
         tracer->began = now->clock;
-        if (!watch_begin(watched, sample) && !breaks) {
+        if (!watch_begin(watched, tracer->settings->part, sample) && !breaks) {
             text_add(&tracer->text, "clock %6zu  start  %Xh begins no frame\n", now->clock, sample & POD_SAMPLE_LINES);
         }
         return false;
@@ -147,7 +168,7 @@ static void follow(struct tracer *tracer, const struct happened *now)
 static int step_through(struct load *load, const struct pod_report *report, struct tracer *tracer, struct vcd *vcd)
 {
     const struct settings *s = &load->settings;
-    struct pod_powered up = pod_power_up(s->straps, s->program, s->slice, s->pause);
+    struct pod_powered up = pod_power_up(s->part, s->straps, s->program, s->slice, s->pause);
     struct pod_device device = up.device;
     uint32_t marks = 0;
     for (size_t clock = 0; clock < report->samples; clock++) {
@@ -184,7 +205,7 @@ static int step_through(struct load *load, const struct pod_report *report, stru
 static int trace_and_tell(struct load *load, const char *vcd_path)
 {
     struct pod_report report;
-    struct tracer tracer = { .text = { NULL, 0, 0 } };
+    struct tracer tracer = { .settings = &load->settings, .text = { NULL, 0, 0 } };
     struct vcd vcd;
     vcd_begin(&vcd);
     int status = load_run(load, &report);
@@ -209,9 +230,10 @@ static int trace_and_tell(struct load *load, const char *vcd_path)
 int command_trace(int count, char **words)
 {
     struct load load = { .image = NULL };
-    struct settings_options from = { NULL, NULL, NULL };
+    struct settings_options from = { .part = NULL };
     const char *vcd_path = NULL;
     const struct option options[] = {
+        { "--part", &from.part, NULL },
         { "--straps", &from.straps, NULL },
         { "--times", &from.times, NULL },
         { "--sheet", &from.sheet, NULL },

@@ -70,23 +70,53 @@ struct brief brief_status(uint32_t status)
     return out;
 }
 
-struct brief brief_address(uint32_t address)
+struct brief brief_stranger(const struct settings *settings, uint32_t address)
 {
     struct brief out = { "" };
-    unsigned shown = (unsigned)address;
-    unsigned block = block_of(shown % POD_IMAGE_BYTES);
-    if ((shown & ADDRESS_IS_ARRAY) != 0) {
-        brief_add(&out, "array %05Xh (block %u)", shown % POD_IMAGE_BYTES, block);
-    } else if (shown == lock_address(block)) {
-        brief_add(&out, "lock of block %u (%07Xh)", block, shown);
-    } else if (shown == ADDRESS_INPUTS) {
-        brief_add(&out, "inputs (%07Xh)", shown);
-    } else if (shown == ADDRESS_MAKER) {
-        brief_add(&out, "maker (%07Xh)", shown);
-    } else if (shown == ADDRESS_DEVICE) {
-        brief_add(&out, "device code (%07Xh)", shown);
+    const uint32_t windows = POD_LPC_STRAPS_MOST * (uint32_t)POD_IMAGE_BYTES;
+    uint32_t window = address & windows;
+    if (settings->part != POD_PART_LPC) {
+        return out;
+    }
+    if ((address & ADDRESS_LPC_HIGH) != ADDRESS_LPC_HIGH) {
+        brief_add(&out, "bits 23 to 31 are not all 1");
+    } else if (window != address_window(settings->straps)) {
+        brief_add(&out, "an address of straps %u", (unsigned)(POD_LPC_STRAPS_MOST - window / POD_IMAGE_BYTES));
+    }
+    return out;
+}
+
+/* A register's name and address. Maker and device code are FWH's, and no LPC address is one of theirs. */
+static struct brief brief_register(const struct settings *settings, uint32_t address)
+{
+    struct brief out = { "" };
+    unsigned part = settings->part;
+    unsigned block = block_of(address % POD_IMAGE_BYTES);
+    int digits = part == POD_PART_LPC ? 8 : 7;
+    if (address == lock_address(part, settings->straps, block)) {
+        brief_add(&out, "lock of block %u (%0*Xh)", block, digits, (unsigned)address);
+    } else if (address == inputs_address(part, settings->straps)) {
+        brief_add(&out, "inputs (%0*Xh)", digits, (unsigned)address);
+    } else if (address == ADDRESS_MAKER) {
+        brief_add(&out, "maker (%0*Xh)", digits, (unsigned)address);
+    } else if (address == ADDRESS_DEVICE) {
+        brief_add(&out, "device code (%0*Xh)", digits, (unsigned)address);
     } else {
-        brief_add(&out, "register %07Xh", shown);
+        brief_add(&out, "register %0*Xh", digits, (unsigned)address);
+    }
+    return out;
+}
+
+struct brief brief_address(const struct settings *settings, uint32_t address)
+{
+    struct brief out = { "" };
+    uint32_t place = address % POD_IMAGE_BYTES;
+    if (brief_stranger(settings, address).text[0] != '\0') {
+        brief_add(&out, "address %08Xh", (unsigned)address);
+    } else if ((address & ADDRESS_IS_ARRAY) != 0) {
+        brief_add(&out, "array %05Xh (block %u)", (unsigned)place, (unsigned)block_of(place));
+    } else {
+        out = brief_register(settings, address);
     }
     return out;
 }
@@ -222,16 +252,17 @@ int refused(uint32_t number, const struct facts *facts)
     case POD_REFUSED_STRAPS:
         if (facts->sheet != NULL) {
             return trouble(status, "refusal 3: %s has straps that the part has not\n"
-                                   "  expected  straps 0 to %d\n"
+                                   "  expected  straps 0 to %u\n"
                                    "  found     %s\n"
                                    "  do        write the sheet anew with bay sheet write",
-                           facts->sheet, POD_STRAPS_MOST, sheet_found(facts).text);
+                           facts->sheet, (unsigned)straps_most(POD_PART_FWH), sheet_found(facts).text);
         }
         return trouble(status, "refusal 3: there are no such straps\n"
-                               "  expected  straps 0 to %d\n"
+                               "  expected  straps 0 to %u, as the part %s has them\n"
                                "  found     %s\n"
-                               "  do        give the four strap pins as a number from 0 to %d",
-                       POD_STRAPS_MOST, counted(s->straps).text, POD_STRAPS_MOST);
+                               "  do        give the strap pins as a number from 0 to %u",
+                       (unsigned)straps_most(s->part), part_word(s->part), counted(s->straps).text,
+                       (unsigned)straps_most(s->part));
     case POD_REFUSED_TIMES:
         if (facts->sheet != NULL) {
             return trouble(status, "refusal 4: %s has a time that is out of range\n"

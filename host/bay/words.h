@@ -21,8 +21,12 @@ struct brief brief_status(uint32_t status);
 /* The name of status bit 1 to 7 in one word, as a waveform shows it. */
 const char *status_bit_name(unsigned bit);
 
-/* A 28-bit address: a place in the array, or a register by its name. */
-struct brief brief_address(uint32_t address);
+/* The address of a frame on the bus of the part with these settings: a place in the array, a register by its name, or
+ * the bare number where it is another part's. */
+struct brief brief_address(const struct settings *settings, uint32_t address);
+
+/* Why an address is another part's, which only LPC has. "" where it is this one's. */
+struct brief brief_stranger(const struct settings *settings, uint32_t address);
 
 /* The pins of a sample that differ from those of the sample before; with no sample before, all. */
 struct brief brief_pins(uint16_t sample, const uint16_t *before);

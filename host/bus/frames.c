@@ -1,23 +1,36 @@
-/* Laying down and recognising Firmware Hub frames. */
+/* Laying down and recognising frames. */
 #include "bus/frames.h"
 
-struct frame frame_read(unsigned select, uint32_t address)
+#include "pod.h"
+
+static struct frame frame_of(unsigned part, unsigned straps, uint32_t address, bool write)
 {
-    return (struct frame){ .write = false,
-                           .start = FRAME_START_READ,
-                           .select = (uint8_t)select,
-                           .turn = FRAME_TURNAROUND,
-                           .address = address };
+    struct frame frame = { .write = write, .part = (uint8_t)part, .turn = FRAME_TURNAROUND, .address = address };
+    if (part == POD_PART_LPC) {
+        frame.start = FRAME_START_LPC;
+        frame.select = write ? FRAME_TYPE_WRITE : FRAME_TYPE_READ;
+    } else {
+        frame.start = write ? FRAME_START_WRITE : FRAME_START_READ;
+        frame.select = (uint8_t)straps;
+    }
+    return frame;
 }
 
-struct frame frame_write(unsigned select, uint32_t address, uint8_t byte)
+struct frame frame_read(unsigned part, unsigned straps, uint32_t address)
 {
-    return (struct frame){ .write = true,
-                           .start = FRAME_START_WRITE,
-                           .select = (uint8_t)select,
-                           .turn = FRAME_TURNAROUND,
-                           .byte = byte,
-                           .address = address };
+    return frame_of(part, straps, address, false);
+}
+
+struct frame frame_write(unsigned part, unsigned straps, uint32_t address, uint8_t byte)
+{
+    struct frame frame = frame_of(part, straps, address, true);
+    frame.byte = byte;
+    return frame;
+}
+
+unsigned frame_address_end(unsigned part)
+{
+    return part == POD_PART_LPC ? FRAME_CLOCK_JUDGED : FRAME_CLOCK_SIZE - 1;
 }
 
 unsigned frame_clocks(const struct frame *frame)
@@ -34,8 +47,8 @@ static unsigned lines(const struct frame *frame, unsigned clock)
     if (clock == FRAME_CLOCK_SELECT) {
         return frame->select;
     }
-    if (clock < FRAME_CLOCK_SIZE) {
-        return frame->address >> 4 * (FRAME_CLOCK_SIZE - 1 - clock);
+    if (clock <= frame_address_end(frame->part)) {
+        return frame->address >> 4 * (frame_address_end(frame->part) - clock);
     }
     if (clock == FRAME_CLOCK_SIZE) {
         return frame->size;
@@ -94,16 +107,31 @@ uint16_t frame_break(uint16_t idle, unsigned lines)
     return sample_set(sample_with_lines(idle, lines), POD_SAMPLE_FRAME, 0);
 }
 
-bool watch_begin(struct watched *watched, uint16_t sample)
+bool watch_begin(struct watched *watched, unsigned part, uint16_t sample)
 {
     unsigned start = sample & POD_SAMPLE_LINES;
+    bool write = part != POD_PART_LPC && start == FRAME_START_WRITE;
     *watched = (struct watched){ .clock = 0 };
-    if (start != FRAME_START_READ && start != FRAME_START_WRITE) {
+    if (part == POD_PART_LPC ? start != FRAME_START_LPC : start != FRAME_START_READ && !write) {
         return false;
     }
-    watched->frame.write = start == FRAME_START_WRITE;
+    watched->frame.part = (uint8_t)part;
+    watched->frame.start = (uint8_t)start;
+    watched->frame.write = write;
     watched->clock = 1;
     return true;
+}
+
+/* Clock 2; says whether the frame goes on. */
+static bool watch_select(struct frame *frame, uint8_t host)
+{
+    unsigned type = host & ~(unsigned)FRAME_TYPE_FREE;
+    frame->select = host;
+    if (frame->part != POD_PART_LPC) {
+        return true;
+    }
+    frame->write = type == FRAME_TYPE_WRITE;
+    return type == FRAME_TYPE_READ || type == FRAME_TYPE_WRITE;
 }
 
 bool watch_clock(struct watched *watched, const struct seen *seen)
@@ -115,8 +143,9 @@ bool watch_clock(struct watched *watched, const struct seen *seen)
     unsigned data = frame->write ? FRAME_CLOCK_WRITTEN : FRAME_CLOCK_READ;
     uint8_t nibble = frame->write ? host : device;
     if (clock == FRAME_CLOCK_SELECT) {
-        frame->select = host;
-    } else if (clock >= FRAME_CLOCK_ADDRESS && clock < FRAME_CLOCK_SIZE) {
+        return !watch_select(frame, host);
+    }
+    if (clock <= frame_address_end(frame->part)) {
         frame->address = frame->address << 4 | host;
     } else if (clock == FRAME_CLOCK_SIZE) {
         frame->size = host;

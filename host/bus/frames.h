@@ -1,4 +1,5 @@
-/* Firmware Hub frames: laid down clock by clock, and recognised again on a bus that someone watches. */
+/* Frames of the Firmware Hub and of the LPC bus: laid down clock by clock, and recognised again on a bus that someone
+ * watches. */
 #ifndef BUS_FRAMES_H
 #define BUS_FRAMES_H
 
@@ -8,7 +9,7 @@
 #include <stddef.h>
 #include <stdint.h>
 
-/* The clocks of a frame, counted from 1:
+/* The clocks of a frame, counted from 1. On the Firmware Hub bus:
  *           read            write
  *     1     start 1101b     start 1110b, frame line low
  *     2     device select (straps)
@@ -18,14 +19,23 @@
  *     13-14 wait            turnaround
  *     15    sync            sync
  *     16-17 data            turnaround
- *     18-19 turnaround */
+ *     18-19 turnaround
+ * and on the LPC bus, which is the same from clock 11 on:
+ *     1     start 0000b, frame line low
+ *     2     cycle type 010Xb read, 011Xb write
+ *     3-10  address, highest nibble first */
 enum {
     FRAME_START_READ = 0xD,
     FRAME_START_WRITE = 0xE,
+    FRAME_START_LPC = 0x0,
+    FRAME_TYPE_READ = 0x4,
+    FRAME_TYPE_WRITE = 0x6,
+    FRAME_TYPE_FREE = 0x1, /* the bit of a cycle type that does not count */
     FRAME_TURNAROUND = 0xF,
     FRAME_CLOCK_SELECT = 2,
     FRAME_CLOCK_ADDRESS = 3,
     FRAME_CLOCK_SIZE = 10,
+    FRAME_CLOCK_JUDGED = 10, /* where a frame of either part is dropped at the latest */
     FRAME_CLOCK_WRITTEN = 11,
     FRAME_CLOCK_ACT = 12,
     FRAME_CLOCK_WAIT = 13,
@@ -36,10 +46,12 @@ enum {
     FRAME_MOST_CLOCKS = FRAME_READ_CLOCKS
 };
 
-/* A frame nibble by nibble, so that any of them can be a wrong one. byte: what is written, or what a read is to
- * find. */
+/* A frame nibble by nibble, so that any of them can be a wrong one. part: POD_PART_.., whose bus it is laid for;
+ * select: what stands on clock 2, the straps or the cycle type; size: of FWH only; byte: what is written, or what a
+ * read is to find. */
 struct frame {
     bool write;
+    uint8_t part;
     uint8_t start;
     uint8_t select;
     uint8_t size;
@@ -48,8 +60,12 @@ struct frame {
     uint32_t address;
 };
 
-struct frame frame_read(unsigned select, uint32_t address);
-struct frame frame_write(unsigned select, uint32_t address, uint8_t byte);
+/* Frames that a part with these straps takes; on LPC it is the address that has to have them. */
+struct frame frame_read(unsigned part, unsigned straps, uint32_t address);
+struct frame frame_write(unsigned part, unsigned straps, uint32_t address, uint8_t byte);
+
+/* The last clock of a part's address. */
+unsigned frame_address_end(unsigned part);
 
 unsigned frame_clocks(const struct frame *frame);
 
@@ -75,10 +91,12 @@ struct watched {
     bool answered;
 };
 
-/* Whether a sample with a low frame line begins a frame. */
-bool watch_begin(struct watched *watched, uint16_t sample);
+/* Whether a sample with a low frame line begins a frame of this part. Which way an LPC frame goes is known from clock
+ * 2 on; till then it counts as a read. */
+bool watch_begin(struct watched *watched, unsigned part, uint16_t sample);
 
-/* Takes one further clock; says whether the frame is then at its end. */
+/* Takes one further clock; says whether the frame is then at its end. That is clock 2 for an LPC frame of another cycle
+ * type, which no part takes. */
 bool watch_clock(struct watched *watched, const struct seen *seen);
 
 #endif

@@ -4,7 +4,6 @@
 #include "bus/addresses.h"
 
 #include <stdlib.h>
-#include <string.h>
 
 void script_begin(struct script *script, size_t most)
 {
@@ -103,13 +102,15 @@ static unsigned take_clock(const struct frame *frame, struct words *words)
 static bool take_nibble(struct script_frame *last, struct words *words)
 {
     struct frame *frame = &last->frame;
+    const bool lpc = frame->part == POD_PART_LPC;
     const struct {
         const char *name;
         uint8_t *nibble;
-    } options[] = { { "strap", &frame->select }, { "size", &frame->size }, { "start", &frame->start },
-                    { "turn", &frame->turn } };
+        bool stands; /* on the bus of the part */
+    } options[] = { { "strap", &frame->select, !lpc }, { "size", &frame->size, !lpc }, { "type", &frame->select, lpc },
+                    { "start", &frame->start, true },  { "turn", &frame->turn, true } };
     for (size_t i = 0; i < sizeof options / sizeof options[0]; i++) {
-        if (words_take_if(words, options[i].name)) {
+        if (options[i].stands && words_take_if(words, options[i].name)) {
             *options[i].nibble = (uint8_t)words_hex(words, 0xF);
             return true;
         }
@@ -117,34 +118,43 @@ static bool take_nibble(struct script_frame *last, struct words *words)
     return false;
 }
 
-static void take_frame(struct script *script, struct words *words, bool write)
+/* Takes the options of a frame; gives the clock before which it is cut, or 0. */
+static unsigned take_options(struct script_frame *last, struct words *words)
 {
-    uint32_t address = words_hex(words, ADDRESS_MOST);
-    struct script_frame last = { .nibble = 0xF };
-    last.frame = write ? frame_write(script->straps, address, (uint8_t)words_hex(words, 0xFF))
-                       : frame_read(script->straps, address);
-    last.clocks = frame_clocks(&last.frame);
     unsigned cut = 0;
-    bool selected = script->straps <= POD_STRAPS_MOST;
     while (words_more(words)) {
-        selected |= strcmp(words_look(words), "strap") == 0;
-        if (!write && words_take_if(words, "=")) {
-            last.frame.byte = (uint8_t)words_hex(words, 0xFF);
-            last.valued = true;
+        if (!last->frame.write && words_take_if(words, "=")) {
+            last->frame.byte = (uint8_t)words_hex(words, 0xFF);
+            last->valued = true;
         } else if (words_take_if(words, "break")) {
-            last.broken = true;
-            last.clocks = take_clock(&last.frame, words);
+            last->broken = true;
+            last->clocks = take_clock(&last->frame, words);
         } else if (words_take_if(words, "cut")) {
-            cut = take_clock(&last.frame, words);
+            cut = take_clock(&last->frame, words);
         } else if (words_take_if(words, "nibble")) {
-            last.nibble = words_hex(words, 0xF);
+            last->nibble = words_hex(words, 0xF);
         } else if (words_take_if(words, "silent")) {
-            last.silent = true;
-        } else if (!take_nibble(&last, words)) {
+            last->silent = true;
+        } else if (!take_nibble(last, words)) {
             words_wrong(words, "expected an option of a frame, found %s", words_found(words));
         }
     }
-    if (!selected) {
+    return cut;
+}
+
+/* What frames select for straps that have no nibble on the FWH bus. */
+enum { UNSELECTED = POD_STRAPS_MOST + 1 };
+
+static void take_frame(struct script *script, struct words *words, bool write)
+{
+    const unsigned straps = script->straps < UNSELECTED ? script->straps : UNSELECTED;
+    uint32_t address = words_hex(words, address_most(script->part));
+    struct script_frame last = { .nibble = 0xF };
+    last.frame = write ? frame_write(script->part, straps, address, (uint8_t)words_hex(words, 0xFF))
+                       : frame_read(script->part, straps, address);
+    last.clocks = frame_clocks(&last.frame);
+    const unsigned cut = take_options(&last, words);
+    if (last.frame.select == UNSELECTED) {
         words_wrong(words, "expected `strap` where no nibble selects the straps, found none");
     }
     if (!words_are_wrong(words)) {
@@ -207,6 +217,17 @@ static void take_raw(struct script *script, struct words *words)
 
 /* ---- What holds from the next sample on. */
 
+static void take_part(struct script *script, struct words *words)
+{
+    if (script->count > 0) {
+        words_wrong(words, "expected a part before the first sample, found it after it");
+    }
+    script->part = words_take_if(words, "lpc") ? POD_PART_LPC : POD_PART_FWH;
+    if (script->part == POD_PART_FWH && !words_take_if(words, "fwh")) {
+        words_wrong(words, "expected fwh or lpc, found %s", words_found(words));
+    }
+}
+
 static void take_straps(struct script *script, struct words *words)
 {
     if (script->count > 0) {
@@ -253,7 +274,7 @@ bool script_take(struct script *script, struct words *words)
     } lines[] = {
         { "write", take_write }, { "read", take_read },     { "on", take_on },   { "idle", take_idle },
         { "reset", take_reset }, { "raw", take_raw },       { "pin", take_pin }, { "voltage", take_voltage },
-        { "lines", take_lines }, { "inputs", take_inputs }, { "straps", take_straps },
+        { "lines", take_lines }, { "inputs", take_inputs }, { "straps", take_straps }, { "part", take_part },
     };
     for (size_t i = 0; i < sizeof lines / sizeof lines[0]; i++) {
         if (words_take_if(words, lines[i].name)) {

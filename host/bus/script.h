@@ -1,8 +1,9 @@
 /* The language in which traffic is written: lines of text that lay samples down, one after the other.
  *
- * Addresses, bytes, nibbles and samples are written in hexadecimal, everything else in decimal. An address has 28 bits.
- * # begins a comment.
+ * Addresses, bytes, nibbles and samples are written in hexadecimal, everything else in decimal. An address has 28 bits,
+ * on LPC 32. # begins a comment.
  *
+ *   part fwh|lpc                  whose frames are laid (fwh when not said); before any sample
  *   straps N                      what frames select (0 when not said); before any sample
  *   pin tbl|wp low|high           from the next sample on (high when not said)
  *   voltage N | inputs XX         from the next sample on (1 and 00 when not said)
@@ -12,6 +13,7 @@
  *       break CLOCK               the frame line is low on that clock, the lines at `nibble N` (F), and the frame ends
  *       cut CLOCK                 the frame stops before that clock; `on` goes on with it
  *       strap N, size N, start N, turn N   another nibble than the right one (turn: all clocks of turnaround)
+ *       type N                    the same on LPC, for the cycle type of clock 2; it has no straps and no size there
  *       silent                    the part is not to drive at all
  *   on [N]                        the next N clocks, or all, of the frame that was cut
  *   idle N                        N samples, at most 1,000,000
@@ -55,6 +57,7 @@ struct script {
     size_t count;
     size_t room;
     size_t most; /* no more samples than these are laid */
+    uint32_t part; /* POD_PART_.. */
     uint32_t straps;
     uint16_t idle;
     bool open; /* the part may still be in a frame: what it answers to an idle sample is not known */

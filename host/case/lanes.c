@@ -109,7 +109,7 @@ static uint32_t take_clock(struct lane *lane, uint16_t sample, int *answer)
 static void walk(const struct scenario *scenario, struct lane *lane, struct judge *judge)
 {
     const struct power *power = &scenario->power;
-    const struct pod_powered up = pod_power_up(power->straps, power->program, power->slice, power->pause);
+    const struct pod_powered up = power_up(power);
     size_t next = 0;
     memcpy(lane->image, scenario->image, sizeof lane->image);
     lane->device = up.device;

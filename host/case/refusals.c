@@ -57,7 +57,7 @@ static struct outcome make_call(const struct wish *wish, const struct pod_device
         const struct pod_powered set = pod_set_times(*device, power->program, power->slice, power->pause);
         outcome = (struct outcome){ set.number, 0, set.device };
     } else {
-        const struct pod_powered up = pod_power_up(power->straps, power->program, power->slice, power->pause);
+        const struct pod_powered up = power_up(power);
         outcome = (struct outcome){ up.number, 0, up.device };
     }
     return outcome;
@@ -75,7 +75,7 @@ static void device_refused(const struct check *check, struct lane *lane, struct 
     struct pod_device device = wished_device(wish, lane);
     const struct outcome outcome = make_call(wish, &device, lane->image, sample);
     if (wish->call == CALL_POWER_UP) {
-        device = pod_power_up(plain.straps, plain.program, plain.slice, plain.pause).device;
+        device = power_up(&plain).device;
     }
     judge_same(judge, check->line, "number of the refusal", check->value, outcome.number);
     judge_same(judge, check->line, "answer or count of the refusal", 0, outcome.other);

@@ -23,7 +23,7 @@ struct ran run_first(const struct scenario *scenario, uint32_t samples, uint32_t
     const struct power *power = &scenario->power;
     struct ran ran = { .image = image, .answers = answers };
     make_ready(scenario, samples);
-    ran.report = pod_run(image, POD_IMAGE_BYTES, stream, 2 * (size_t)samples, answers, room, power->straps,
+    ran.report = pod_run(image, POD_IMAGE_BYTES, stream, 2 * (size_t)samples, answers, room, power->part, power->straps,
                          power->program, power->slice, power->pause);
     return ran;
 }
@@ -39,7 +39,7 @@ void run_refused(const struct scenario *scenario, const struct check *check, con
         sample_put(stream, wish->class_3_at, sample_at(stream, wish->class_3_at) | POD_SAMPLE_VOLTAGE);
     }
     const struct pod_report report = pod_run(image, wish->image_length, stream, stream_length, answers, room,
-                                             power->straps, power->program, power->slice, power->pause);
+                                             power->part, power->straps, power->program, power->slice, power->pause);
     judge_same(judge, check->line, "number of run", check->value, report.number);
     judge_same(judge, check->line, "samples of the refused run", 0, report.samples);
     judge_same(judge, check->line, "status of the refused run", 0, report.status);

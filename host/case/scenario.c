@@ -177,6 +177,7 @@ static void take_line(struct scenario *scenario, struct words *words)
     if (!script_take(&scenario->script, words)) {
         take_own(scenario, words);
     }
+    scenario->power.part = scenario->script.part;
     scenario->power.straps = scenario->script.straps;
     if (!scenario->run_stopped) {
         scenario->run_until = samples_of(scenario);

@@ -1,8 +1,8 @@
 /* A scenario: a file of traffic, and of what is to be found in its course.
  *
- * A file begins with a comment line that tells the rule it shows. The traffic is written as bus/script.h says: its
- * straps are those of the power-up as well, and it states what the part is to answer. Besides there are these lines,
- * where a PLACE is one in the image:
+ * A file begins with a comment line that tells the rule it shows. The traffic is written as bus/script.h says: its part
+ * and straps are those of the power-up as well, and it states what the part is to answer. Besides there are these
+ * lines, where a PLACE is one in the image:
  *
  *   times P S U                             of the power-up (10 3906 30 when not said); before any sample
  *   image fill XX | image at PLACE XX..     the image lent (FFh when not said); before any sample
@@ -16,7 +16,8 @@
  *   sheet read XX.. = S P S U | sheet write S P S U = XX..
  *   refuse NUMBER step|clock|settle [unsound] [image LENGTH] [class3] [frame low] [rp low] [init low] [limit N]
  *   refuse NUMBER set times P S U [unsound]
- *   refuse NUMBER power|run [straps N] [times P S U] [image LENGTH] [stream LENGTH] [room LENGTH] [class3 SAMPLE]
+ *   refuse NUMBER power|run [part N] [straps N] [times P S U] [image LENGTH] [stream LENGTH] [room LENGTH]
+ *       [class3 SAMPLE]
  *   refuse NUMBER sheet read XX.. | refuse NUMBER sheet write [straps N] [times P S U] [room LENGTH]
  */
 #ifndef CASE_SCENARIO_H
@@ -54,7 +55,7 @@ struct check {
     uint32_t limit;    /* of a settle, with the samples that it takes in and whether they are laid as well */
     uint32_t count;
     bool laid;
-    struct power times; /* that are set; the straps are not meant */
+    struct power times; /* that are set; part and straps are not meant */
     struct wish wish;  /* of a sheet, a view or a refusal */
 };
 

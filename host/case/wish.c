@@ -6,7 +6,12 @@
 
 struct power power_plain(void)
 {
-    return (struct power){ .straps = 0, .program = 10, .slice = 3906, .pause = 30 };
+    return (struct power){ .part = POD_PART_FWH, .straps = 0, .program = 10, .slice = 3906, .pause = 30 };
+}
+
+struct pod_powered power_up(const struct power *power)
+{
+    return pod_power_up(power->part, power->straps, power->program, power->slice, power->pause);
 }
 
 void power_take_times(struct power *power, struct words *words)
@@ -89,6 +94,8 @@ static void take_options(struct wish *wish, struct words *words)
         } else if (words_take_if(words, "soiled")) {
             wish->soiled = true;
             wish->soiled_at = words_hex(words, POD_BLOCK_BYTES - 1);
+        } else if (words_take_if(words, "part")) {
+            wish->power.part = words_decimal(words, UINT32_MAX);
         } else if (words_take_if(words, "straps")) {
             wish->power.straps = words_decimal(words, UINT32_MAX);
         } else if (words_take_if(words, "times")) {

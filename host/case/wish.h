@@ -15,8 +15,9 @@ enum { SPARE = 64 };
 /* The most samples of a scenario. */
 enum { SAMPLES_MOST = POD_STREAM_BYTES / 2 };
 
-/* What a power-up is told; also what a sheet holds. */
+/* What a power-up is told; also what a sheet holds, but for the part. */
 struct power {
+    uint32_t part;
     uint32_t straps;
     uint32_t program;
     uint32_t slice;
@@ -63,6 +64,9 @@ struct wish {
 
 /* The power-up that a file has where it says nothing. */
 struct power power_plain(void);
+
+/* The library's own power-up. */
+struct pod_powered power_up(const struct power *power);
 
 /* Takes three times. */
 void power_take_times(struct power *power, struct words *words);

@@ -40,25 +40,26 @@ static void set_times(void)
     expect_same_state();
 }
 
-/* A number below 16, one in `odd` with a bit above those that such a number needs. */
-static uint32_t maybe_high(uint32_t number, uint32_t odd)
-{
-    const uint32_t high = 1u << (4 + rnd(28));
-    return one_in(odd) ? number + high : number;
-}
-
 static void try_power_up(void)
 {
-    const uint32_t straps = maybe_high(rnd(POD_STRAPS_MOST + 1), 3);
+    const uint32_t part = maybe_no_part(4);
+    const uint32_t straps = maybe_no_straps(part, 3);
     const struct model_times t = maybe_bad_times(2);
     struct model fresh;
-    const uint32_t number = model_power_up(&fresh, straps, t);
-    const struct pod_powered up = pod_power_up(straps, t.program, t.slice, t.pause);
-    const struct pod_powered plain = pod_power_up(0, 10, 3906, 30);
+    const uint32_t number = model_power_up(&fresh, part, straps, t);
+    const struct pod_powered up = pod_power_up(part, straps, t.program, t.slice, t.pause);
+    const struct pod_powered plain = pod_power_up(POD_PART_FWH, 0, 10, 3906, 30);
     expect_number("number of pod_power_up", number, up.number);
     if (number != POD_DONE && !same_device(&up.device, &plain.device)) {
         departure("refused pod_power_up does not give the plain device");
     }
+    if (number == POD_REFUSED_STRAPS) {
+        tally(part > POD_PART_LPC    ? POWER_UP_NO_PART
+              : part == POD_PART_LPC ? POWER_UP_LPC_STRAPS
+                                     : POWER_UP_FWH_STRAPS);
+    }
+    expect("part of a fresh device", fresh.part, up.device.part);
+    expect("straps of a fresh device", fresh.straps, up.device.straps);
     expect("status of a fresh device", model_status(&fresh), pod_status(up.device));
     expect("marks of a fresh device", model_marks(&fresh), pod_marks(up.device));
 }
@@ -71,7 +72,7 @@ static size_t about_length(size_t length)
 
 static void try_view(void)
 {
-    const uint32_t block = maybe_high(some_block(), 5);
+    const uint32_t block = one_in(5) ? some_block() + (1u << (4 + rnd(28))) : some_block();
     const size_t image_length = about_length(POD_IMAGE_BYTES), page_length = about_length(POD_BLOCK_BYTES);
     const bool soiled = one_in(6);
     uint32_t spot = 0;
@@ -169,7 +170,7 @@ void call_aside(void)
         try_view();
         break;
     case 9:
-        if (one_in(8)) {
+        if (one_in(3)) {
             try_run();
         }
         break;

@@ -11,7 +11,47 @@
 #include <stdbool.h>
 #include <stddef.h>
 
-enum { ADDRESS_BITS = 28 };
+enum { FWH_ADDRESS_BITS = 28, LPC_ADDRESS_BITS = 32 };
+
+uint32_t some_part(void)
+{
+    return rnd(POD_PART_LPC + 1);
+}
+
+uint32_t straps_most(uint32_t part)
+{
+    return part == POD_PART_LPC ? POD_LPC_STRAPS_MOST : POD_STRAPS_MOST;
+}
+
+uint32_t some_straps(uint32_t part)
+{
+    return rnd(straps_most(part) + 1);
+}
+
+/* A number above `most`: the next, one that a narrower type would cut down to a good one, or any. */
+static uint32_t above(uint32_t most, uint32_t good)
+{
+    switch (rnd(3)) {
+    case 0:
+        return most + 1;
+    case 1:
+        return good + (1u << (4 + rnd(28)));
+    default:
+        return most + 1 + rnd(UINT32_MAX - most);
+    }
+}
+
+uint32_t maybe_no_part(uint32_t bad)
+{
+    const uint32_t part = some_part();
+    return one_in(bad) ? above(POD_PART_LPC, part) : part;
+}
+
+uint32_t maybe_no_straps(uint32_t part, uint32_t bad)
+{
+    const uint32_t straps = some_straps(part);
+    return one_in(bad) ? above(straps_most(part), straps) : straps;
+}
 
 uint32_t some_block(void)
 {
@@ -40,10 +80,19 @@ static uint32_t some_place(void)
     }
 }
 
+/* On FWH the bits above the array's do not count, on LPC all of them do. */
 uint32_t some_address_of(uint32_t place)
 {
-    const uint32_t high = one_in(4) ? rnd(256) << 20 : ADDRESS_ARRAY;
-    return high | ADDRESS_IS_ARRAY | place % POD_IMAGE_BYTES;
+    const uint32_t address = array_address(model.part, model.straps, place % POD_IMAGE_BYTES);
+    if (model.part == POD_PART_LPC) {
+        return one_in(40) ? flip_high_bit(address) : address;
+    }
+    return one_in(4) ? (address % POD_IMAGE_BYTES | rnd(256) << 20 | ADDRESS_IS_ARRAY) : address;
+}
+
+uint32_t flip_high_bit(uint32_t address)
+{
+    return address ^ 1u << (20 + rnd(LPC_ADDRESS_BITS - 20));
 }
 
 uint32_t some_array_address(void)
@@ -51,15 +100,30 @@ uint32_t some_array_address(void)
     return some_address_of(some_place());
 }
 
+/* One of the registers that are no locks, or what is beside them; on LPC no codes stand there. */
+static uint32_t some_fixed_register(void)
+{
+    const uint32_t codes = inputs_address(model.part, model.straps) - (ADDRESS_INPUTS - ADDRESS_MAKER);
+    const uint32_t beside = rnd(4);
+    return beside == 0 ? inputs_address(model.part, model.straps) : codes + beside - 1;
+}
+
+/* An address of any bits. */
+static uint32_t any_address(void)
+{
+    const uint32_t low = rnd(1u << 16);
+    return (rnd(1u << 16) << 16 | low) & address_most(model.part);
+}
+
 uint32_t some_register(void)
 {
-    static const uint32_t fixed[] = { ADDRESS_INPUTS, ADDRESS_MAKER, ADDRESS_DEVICE, ADDRESS_DEVICE + 1 };
-    uint32_t address = one_in(2) ? lock_address(some_block()) : fixed[rnd(4)];
+    const unsigned bits = model.part == POD_PART_LPC ? LPC_ADDRESS_BITS : FWH_ADDRESS_BITS;
+    uint32_t address = one_in(2) ? lock_address(model.part, model.straps, some_block()) : some_fixed_register();
     if (one_in(5)) {
-        address ^= 1u << rnd(ADDRESS_BITS);
+        address ^= 1u << rnd(bits);
     }
     if (one_in(25)) {
-        address = rnd(ADDRESS_MOST + 1);
+        address = any_address();
     }
     return address;
 }

@@ -6,13 +6,25 @@
 
 #include <stdint.h>
 
+/* A part; the most straps that a part allows, and some that it does. */
+uint32_t some_part(void);
+uint32_t straps_most(uint32_t part);
+uint32_t some_straps(uint32_t part);
+
+/* The same, one in `bad` a number that is no part, or straps that this part does not allow. */
+uint32_t maybe_no_part(uint32_t bad);
+uint32_t maybe_no_straps(uint32_t part, uint32_t bad);
+
 /* A block, mostly one of the trace's favourites. */
 uint32_t some_block(void);
 
 /* An address whose array bits name a place, one given or often one where something is going on; the bits that do not
- * count are any. */
+ * count are any, and on LPC there is now and then a bit by which the part is not meant. */
 uint32_t some_address_of(uint32_t place);
 uint32_t some_array_address(void);
+
+/* The address with one of the bits 20 to 31 flipped. */
+uint32_t flip_high_bit(uint32_t address);
 
 /* The address of a register, or of none. */
 uint32_t some_register(void);

@@ -11,7 +11,11 @@
 
 enum {
     NUMBERS = POD_STILL_BUSY + 1,
-    FRAMES = FRAME_WRITE + 1,
+    PARTS = POD_PART_LPC + 1,
+    FRAMES = FRAME_BEGUN + 1,
+    NIBBLES = 16,
+    FIRST_FLIP = 20,
+    FLIPS = 32 - FIRST_FLIP,
     CONDITIONS = PROGRAM_INSIDE + 1,
     COLUMNS = 9,
     OTHER_COLUMN = COLUMNS - 1
@@ -27,10 +31,15 @@ static const char *const condition_names[CONDITIONS] = { "ready",           "run
 static const char *const column_names[COLUMNS] = { "FF", "70", "90,98", "50", "40,10", "20", "B0", "D0", "other" };
 
 static uint64_t tallies[TALLIES];
-static uint64_t numbers[NUMBERS];                      /* of every call */
-static uint64_t breaks[FRAMES][FRAME_MOST_CLOCKS + 1]; /* by the clock, from 1 */
-static uint64_t commands[CONDITIONS][COLUMNS];         /* the cells of the command table */
-static uint64_t setups_ended[CONDITIONS][2];           /* of a program, of an erase */
+static uint64_t numbers[NUMBERS]; /* of every call */
+static uint64_t clocks[PARTS];
+static uint64_t starts[PARTS][NIBBLES];
+static uint64_t taken[PARTS][POD_STRAPS_MOST + 1];            /* frames, by the straps */
+static uint64_t types[NIBBLES];                               /* of LPC frames */
+static uint64_t flips[FLIPS];                                 /* of LPC addresses */
+static uint64_t breaks[PARTS][FRAMES][FRAME_MOST_CLOCKS + 1]; /* by the clock, from 1 */
+static uint64_t commands[CONDITIONS][COLUMNS];                /* the cells of the command table */
+static uint64_t setups_ended[CONDITIONS][2];                  /* of a program, of an erase */
 
 void tally(enum tally what)
 {
@@ -47,9 +56,34 @@ void tally_number(uint32_t number)
     numbers[number]++;
 }
 
-void tally_break(uint8_t frame, uint32_t clock)
+void tally_clock(uint8_t part)
 {
-    breaks[frame][clock]++;
+    clocks[part]++;
+}
+
+void tally_start(uint8_t part, uint32_t nibble)
+{
+    starts[part][nibble]++;
+}
+
+void tally_break(uint8_t part, uint8_t frame, uint32_t clock)
+{
+    breaks[part][frame][clock]++;
+}
+
+void tally_straps(uint8_t part, uint8_t straps)
+{
+    taken[part][straps]++;
+}
+
+void tally_type(uint32_t nibble)
+{
+    types[nibble]++;
+}
+
+void tally_flip(uint32_t bit)
+{
+    flips[bit - FIRST_FLIP]++;
 }
 
 static uint32_t column_of(uint8_t byte)
@@ -88,15 +122,40 @@ void tally_setup_ended(uint8_t condition, uint8_t setup)
     setups_ended[condition][setup - SETUP_PROGRAM]++;
 }
 
-static uint32_t print_breaks(const char *name, const uint64_t *by_clock, uint32_t clocks)
+/* A line of counts; gives how many of them are zero. */
+static uint32_t print_row(const char *name, const uint64_t *counts, uint32_t count)
 {
     uint32_t zeros = 0;
-    printf("\n  %s broken off, by clock:", name);
-    for (uint32_t clock = 2; clock <= clocks; clock++) {
-        printf(" %" PRIu64, by_clock[clock]);
-        zeros += by_clock[clock] == 0;
+    printf("\n  %s:", name);
+    for (uint32_t i = 0; i < count; i++) {
+        printf(" %" PRIu64, counts[i]);
+        zeros += counts[i] == 0;
     }
     return zeros;
+}
+
+static uint32_t print_fwh(void)
+{
+    const uint64_t *reads = breaks[POD_PART_FWH][FRAME_READ], *writes = breaks[POD_PART_FWH][FRAME_WRITE];
+    return print_row("FWH clocks", &clocks[POD_PART_FWH], 1) +
+           print_row("FWH frames taken, by straps", taken[POD_PART_FWH], POD_STRAPS_MOST + 1) +
+           print_row("FWH start nibbles, from 0", starts[POD_PART_FWH], NIBBLES) +
+           print_row("FWH reads broken off, by clock from 2", reads + 2, FRAME_READ_CLOCKS - 1) +
+           print_row("FWH writes broken off, by clock from 2", writes + 2, FRAME_WRITE_CLOCKS - 1);
+}
+
+/* The direction of an LPC frame is known from clock 2 on, so that a break there is of neither. */
+static uint32_t print_lpc(void)
+{
+    const uint64_t *reads = breaks[POD_PART_LPC][FRAME_READ], *writes = breaks[POD_PART_LPC][FRAME_WRITE];
+    return print_row("LPC clocks", &clocks[POD_PART_LPC], 1) +
+           print_row("LPC frames taken, by straps", taken[POD_PART_LPC], POD_LPC_STRAPS_MOST + 1) +
+           print_row("LPC start nibbles, from 0", starts[POD_PART_LPC], NIBBLES) +
+           print_row("LPC cycle types, from 0", types, NIBBLES) +
+           print_row("LPC addresses with one bit flipped, by bit from 20", flips, FLIPS) +
+           print_row("LPC frames broken off on clock 2", breaks[POD_PART_LPC][FRAME_BEGUN] + 2, 1) +
+           print_row("LPC reads broken off, by clock from 3", reads + 3, FRAME_READ_CLOCKS - 2) +
+           print_row("LPC writes broken off, by clock from 3", writes + 3, FRAME_WRITE_CLOCKS - 2);
 }
 
 static uint32_t print_commands(void)
@@ -135,7 +194,7 @@ uint32_t print_tallies(void)
         printf(" %" PRIu32 ": %" PRIu64, i, numbers[i]);
         zeros += numbers[i] == 0;
     }
-    zeros += print_breaks("reads", breaks[FRAME_READ], FRAME_READ_CLOCKS);
-    zeros += print_breaks("writes", breaks[FRAME_WRITE], FRAME_WRITE_CLOCKS);
+    zeros += print_fwh();
+    zeros += print_lpc();
     return zeros + print_commands();
 }

@@ -32,15 +32,26 @@ static void shift_operation(struct pod_controller *controller)
     }
 }
 
+/* The other part, or the same, with any straps that it allows. A frame is of one part only. */
+static void shift_part(struct pod_device *d)
+{
+    if (model.frame == FRAME_NONE && one_in(2)) {
+        model.part = d->part = model.part == POD_PART_LPC ? POD_PART_FWH : POD_PART_LPC;
+        tally(SENT_TO_PART);
+    }
+    model.straps = d->straps = (uint8_t)some_straps(model.part);
+}
+
 void send_elsewhere(void)
 {
     struct pod_device d = step_device;
     bool look_at_mode = false;
     uint32_t block = 0;
-    switch (rnd(8)) {
+    switch (rnd(10)) {
     case 0:
-        model.straps = (uint8_t)rnd(POD_STRAPS_MOST + 1);
-        d.straps = model.straps;
+    case 8:
+    case 9:
+        shift_part(&d);
         break;
     case 1:
         block = some_block();

@@ -1,7 +1,9 @@
 /* Devices of one fault. */
 #include "diff/faults.h"
 
+#include "bus/addresses.h"
 #include "bus/frames.h"
+#include "diff/choices.h"
 #include "diff/condition.h"
 #include "diff/counts.h"
 #include "diff/random.h"
@@ -35,17 +37,86 @@ static bool is_inside(void)
     return model.condition == PROGRAM_INSIDE;
 }
 
-/* Faults of what a device has besides its operations. They put themselves into it and give their name, or none where
- * they do not fit. */
+/* Faults of the part and its straps. They put themselves into the device and give their name, or none where they do not
+ * fit. */
+static const char *fault_of_part(struct pod_device *d, uint32_t roll)
+{
+    const bool lpc = model.part == POD_PART_LPC;
+    if (roll == 0) {
+        d->straps = no_meaning(straps_most(model.part) + 1);
+        tally(lpc ? FAULT_LPC_STRAPS : FAULT_FWH_STRAPS);
+        return lpc ? "straps above 3" : "straps above 15";
+    }
+    d->part = no_meaning(POD_PART_LPC + 1);
+    tally(FAULT_PART);
+    return "a third part";
+}
+
+/* Where no frame is in progress, one that could be. */
+static void frame_if_none(struct pod_frame *frame)
+{
+    const uint32_t first = model.part == POD_PART_LPC ? FRAME_CLOCK_SELECT : 1;
+    if (model.frame != FRAME_NONE) {
+        return;
+    }
+    frame->kind = (uint8_t)(POD_FRAME_READ + rnd(2));
+    frame->clock = (uint8_t)(first + rnd(FRAME_WRITE_CLOCKS - first));
+    frame->address = array_address(model.part, model.straps, rnd(POD_IMAGE_BYTES));
+}
+
+/* Faults of a frame, on FWH and on LPC. */
+static const char *fault_of_fwh_frame(struct pod_frame *frame, uint32_t roll)
+{
+    if (roll == 0) {
+        *frame = (struct pod_frame){ .kind = POD_FRAME_BEGUN, .clock = 1 };
+        tally(FAULT_BEGUN_ON_FWH);
+        return "a frame of unknown direction on FWH";
+    }
+    frame_if_none(frame);
+    frame->address |= 1u << (28 + rnd(4));
+    tally(FAULT_FWH_ADDRESS);
+    return "a frame address beyond 28 bits";
+}
+
+static const char *fault_of_lpc_frame(struct pod_frame *frame, uint32_t roll)
+{
+    if (roll == 0) {
+        frame->kind = POD_FRAME_BEGUN;
+        frame->clock = one_in(2) ? 2 : one_in(2) ? 0 : (uint8_t)(2 + rnd(254));
+        tally(FAULT_BEGUN_CLOCK);
+        return "a frame of unknown direction at another clock than 1";
+    }
+    frame->kind = (uint8_t)(POD_FRAME_READ + rnd(2));
+    frame->clock = 1;
+    tally(FAULT_LPC_CLOCK_1);
+    return "a frame of known direction at clock 1";
+}
+
+static const char *fault_of_frame(struct pod_frame *frame, uint32_t roll)
+{
+    uint32_t clocks = 0;
+    switch (roll) {
+    case 2:
+        frame->kind = no_meaning(POD_FRAME_BEGUN + 1);
+        return "a fourth kind of frame";
+    case 3:
+        frame_if_none(frame);
+        clocks = frame->kind == POD_FRAME_READ ? FRAME_READ_CLOCKS : FRAME_WRITE_CLOCKS;
+        frame->clock = one_in(4) ? 0 : (uint8_t)(clocks + rnd(200));
+        return "no such stage of a frame";
+    default:
+        return model.part == POD_PART_LPC ? fault_of_lpc_frame(frame, roll) : fault_of_fwh_frame(frame, roll);
+    }
+}
+
+/* Faults of what else a device has besides its operations. */
 static const char *fault_of_fields(struct pod_device *d, uint32_t roll)
 {
     static const uint8_t no_errors[] = { 0x01, 0x04, 0x40, 0x80 };
-    uint32_t clocks = 0;
     uint8_t lock = 0;
     switch (roll) {
     case 0:
-        d->straps = no_meaning(POD_STRAPS_MOST + 1);
-        return "straps above 15";
+        return fault_of_part(d, rnd(2));
     case 1:
         lock = no_meaning(8);
         d->locks[rnd(POD_BLOCKS)] = lock;
@@ -66,21 +137,9 @@ static const char *fault_of_fields(struct pod_device *d, uint32_t roll)
         d->controller.errors |= no_errors[rnd(sizeof no_errors)];
         return "an error bit outside 3Ah";
     case 7:
-        d->frame.kind = no_meaning(POD_FRAME_WRITE + 1);
-        return "a third kind of frame";
     case 8:
-        if (model.frame == FRAME_NONE) {
-            return NULL;
-        }
-        d->frame.address |= 1u << (28 + rnd(4));
-        return "a frame address beyond 28 bits";
     case 9:
-        if (model.frame == FRAME_NONE) {
-            return NULL;
-        }
-        clocks = model.frame == FRAME_READ ? FRAME_READ_CLOCKS : FRAME_WRITE_CLOCKS;
-        d->frame.clock = one_in(4) ? 0 : (uint8_t)(clocks + 1 + rnd(200));
-        return "no such stage of a frame";
+        return fault_of_frame(&d->frame, rnd(4));
     default:
         d->controller.setup = no_meaning(POD_SETUP_ERASE + 1);
         return "a third kind of setup";

@@ -46,6 +46,7 @@ void images_make(void)
     images.ahead = new_image();
     images.wild = new_image();
     images.wild_clock = new_image();
+    images.wild_model = new_image();
     images.page = new_bytes(POD_BLOCK_BYTES + SPARE);
 }
 

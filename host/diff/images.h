@@ -15,6 +15,7 @@ struct images {
     uint8_t *ahead;     /* for the model to look ahead on: what it holds counts nowhere */
     uint8_t *wild;      /* for unsound devices and those of wild bytes */
     uint8_t *wild_clock;
+    uint8_t *wild_model;
     uint8_t *page;      /* a block of zeros */
 };
 extern struct images images;

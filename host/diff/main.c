@@ -1,5 +1,5 @@
-/* Sends random traces through the proved model and through the hand-written one and stops at the first departure:
- * every answer byte, number, status, mark and image byte is compared.
+/* Sends random traces of both parts through the proved model and through the hand-written one and stops at the first
+ * departure: every answer byte, number, frame, status, mark and image byte is compared.
  *
  *   diff [--clocks N] [--seed S] [--forever] [--record FILE]
  *

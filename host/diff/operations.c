@@ -34,7 +34,8 @@ static void prepare(uint32_t block)
         good_pins();
     }
     if (!one_in(8) && (model.locks[block] & POD_LOCK_WRITE) != 0) {
-        send_write(lock_address(block), one_in(10) ? POD_LOCK_DOWN : one_in(8) ? POD_LOCK_READ : 0, 40);
+        const uint32_t address = lock_address(model.part, model.straps, block);
+        send_write(address, one_in(10) ? POD_LOCK_DOWN : one_in(8) ? POD_LOCK_READ : 0, 40);
     }
 }
 

@@ -52,8 +52,9 @@ void play_trace(uint64_t seed)
 {
     trace.seed = seed;
     rnd_start(seed * 0xD1342543DE82EF95u + 0x632BE59BD9B4E019u);
-    const uint32_t straps = rnd(POD_STRAPS_MOST + 1);
-    expect_number("number of pod_power_up", POD_DONE, sides_power_up(straps, some_times()));
+    const uint32_t part = some_part();
+    const uint32_t straps = some_straps(part);
+    expect_number("number of pod_power_up", POD_DONE, sides_power_up(part, straps, some_times()));
     expect_same_state();
     trace.length = some_length();
     choose_behaviour();
@@ -70,10 +71,11 @@ void play_trace(uint64_t seed)
 /* The three frames that open a block's lock and begin its erase. */
 static void lay_erase(void)
 {
-    const uint32_t address = array_address(ERASED_BLOCK * POD_BLOCK_BYTES);
-    lay_frame(frame_write(trace.straps, lock_address(ERASED_BLOCK), 0x00));
-    lay_frame(frame_write(trace.straps, address, COMMAND_ERASE));
-    lay_frame(frame_write(trace.straps, address, COMMAND_RESUME));
+    const uint32_t part = trace.part, straps = trace.straps;
+    const uint32_t address = array_address(part, straps, ERASED_BLOCK * POD_BLOCK_BYTES);
+    lay_frame(frame_write(part, straps, lock_address(part, straps, ERASED_BLOCK), 0x00));
+    lay_frame(frame_write(part, straps, address, COMMAND_ERASE));
+    lay_frame(frame_write(part, straps, address, COMMAND_RESUME));
 }
 
 void play_whole_erase(void)
@@ -86,7 +88,7 @@ void play_whole_erase(void)
     trace.nervous = 0;
     trace.pins = POD_SAMPLE_IDLE;
     rnd_start(ERASE_START);
-    expect("number of pod_power_up", POD_DONE, sides_power_up(0, ordinary));
+    expect("number of pod_power_up", POD_DONE, sides_power_up(POD_PART_FWH, 0, ordinary));
     lay_erase();
 
     expect("number of the model's settle", POD_DONE,

@@ -23,9 +23,16 @@ static uint32_t block_in(uint32_t address)
     return block_of(address % POD_IMAGE_BYTES);
 }
 
-static bool is_lock_register(uint32_t address)
+static bool is_lock_register(const struct model *m, uint32_t address)
 {
-    return address == lock_address(block_in(address));
+    return address == lock_address(m->part, m->straps, block_in(address));
+}
+
+/* The maker and the device code of FWH, or what is at their place on LPC. */
+static bool is_at_codes(const struct model *m, uint32_t address)
+{
+    return inputs_address(m->part, m->straps) - address == ADDRESS_INPUTS - ADDRESS_MAKER ||
+           inputs_address(m->part, m->straps) - address == ADDRESS_INPUTS - ADDRESS_DEVICE;
 }
 
 /* Whether a judgement now would turn down the operation that is ending. */
@@ -84,6 +91,18 @@ static void count_end(const struct model *before, const struct model *after, uin
     }
 }
 
+static void count_register_read(const struct model *m, uint32_t address)
+{
+    const bool codes = is_at_codes(m, address), lpc = m->part == POD_PART_LPC;
+    if (lpc && codes) {
+        tally(READS_LPC_CODES);
+    } else if (codes || is_lock_register(m, address) || address == inputs_address(m->part, m->straps)) {
+        tally(lpc ? READS_LPC_REGISTER : READS_REGISTER);
+    } else {
+        tally(READS_NO_REGISTER);
+    }
+}
+
 static void count_read(const struct model *before, const struct model *after, const struct controlled *controlled)
 {
     const uint32_t address = after->address;
@@ -91,13 +110,13 @@ static void count_read(const struct model *before, const struct model *after, co
         tally(READS_END_ON_15);
     }
     if ((address & ADDRESS_IS_ARRAY) == 0) {
-        const bool stands = is_lock_register(address) || address == ADDRESS_INPUTS || address == ADDRESS_MAKER ||
-                            address == ADDRESS_DEVICE;
-        tally(stands ? READS_REGISTER : READS_NO_REGISTER);
+        count_register_read(before, address);
     } else if (before->mode == MODE_ARRAY) {
         tally((before->locks[block_in(address)] & POD_LOCK_READ) != 0 ? READS_LOCKED : READS_ARRAY);
+    } else if (before->mode == MODE_STATUS) {
+        tally(READS_STATUS);
     } else {
-        tally(before->mode == MODE_STATUS ? READS_STATUS : READS_SIGNATURE);
+        tally(before->part == POD_PART_LPC ? READS_LPC_SIGNATURE : READS_SIGNATURE);
     }
 }
 
@@ -125,7 +144,7 @@ static void count_write(const struct model *before, const struct model *after, c
 {
     const uint32_t address = after->address;
     if ((address & ADDRESS_IS_ARRAY) == 0) {
-        if (is_lock_register(address) && (before->locks[block_in(address)] & POD_LOCK_DOWN) != 0) {
+        if (is_lock_register(before, address) && (before->locks[block_in(address)] & POD_LOCK_DOWN) != 0) {
             tally(LOCK_DOWN_HELD);
         }
         return;
@@ -150,13 +169,52 @@ static void count_write(const struct model *before, const struct model *after, c
     }
 }
 
+/* An LPC address on the clock that it is whole: what there is against it, and which one bit from 20 on is another than
+ * in an address of the array. */
+static void count_lpc_address(const struct model *m)
+{
+    const uint32_t right = array_address(POD_PART_LPC, m->straps, 0);
+    const uint32_t wrong = (m->address ^ right) & ~(uint32_t)(POD_IMAGE_BYTES - 1);
+    const uint32_t against = wrong & ~(uint32_t)ADDRESS_IS_ARRAY;
+    if ((m->address & ADDRESS_LPC_HIGH) != ADDRESS_LPC_HIGH) {
+        tally(LPC_HIGH_MISMATCHES);
+    } else if (against != 0) {
+        tally(LPC_PIN_MISMATCHES);
+    }
+    const uint32_t flipped = against != 0 ? against : wrong;
+    for (uint32_t bit = 20; bit < 32; bit++) {
+        if (flipped == 1u << bit) {
+            tally_flip(bit);
+        }
+    }
+}
+
+/* The clocks on which a frame may be dropped. */
+static void count_head(const struct model *after, uint32_t clock, uint16_t sample)
+{
+    const bool lpc = after->part == POD_PART_LPC, dropped = after->frame == FRAME_NONE;
+    if (clock == FRAME_CLOCK_SELECT && lpc) {
+        tally_type(sample & POD_SAMPLE_LINES);
+    } else if (clock == FRAME_CLOCK_SELECT && dropped) {
+        tally(STRAP_MISMATCHES);
+    } else if (clock == FRAME_CLOCK_JUDGED && lpc) {
+        count_lpc_address(after);
+    } else if (clock == FRAME_CLOCK_SIZE && dropped) {
+        tally(SIZES_NOT_0);
+    }
+    if (clock == FRAME_CLOCK_JUDGED && !dropped) {
+        tally_straps(after->part, after->straps);
+    }
+}
+
 static void count_frame(const struct model *before, const struct model *after, uint16_t sample,
                         const struct controlled *controlled)
 {
     const uint32_t clock = before->clock + 1u;
     if (!sample_has(sample, POD_SAMPLE_FRAME)) {
+        tally_start(after->part, sample & POD_SAMPLE_LINES);
         if (before->frame != FRAME_NONE) {
-            tally_break(before->frame, clock);
+            tally_break(before->part, before->frame, clock);
         }
         if (after->frame == FRAME_NONE) {
             tally(OTHER_STARTS);
@@ -166,12 +224,7 @@ static void count_frame(const struct model *before, const struct model *after, u
     if (before->frame == FRAME_NONE) {
         return;
     }
-    if (clock == FRAME_CLOCK_SELECT && after->frame == FRAME_NONE) {
-        tally(STRAP_MISMATCHES);
-    }
-    if (clock == FRAME_CLOCK_SIZE && after->frame == FRAME_NONE) {
-        tally(SIZES_NOT_0);
-    }
+    count_head(after, clock, sample);
     if (clock == FRAME_CLOCK_ACT && before->frame == FRAME_WRITE) {
         count_write(before, after, controlled);
     }
@@ -182,6 +235,7 @@ static void count_frame(const struct model *before, const struct model *after, u
 
 struct changed count_clock(const struct model *before, const struct model *after, uint16_t sample)
 {
+    tally_clock(before->part);
     if (!sample_has(sample, POD_SAMPLE_RP) || !sample_has(sample, POD_SAMPLE_INIT)) {
         count_reset(before, after, sample);
         return (struct changed){ .place = 0, .length = 0 };
@@ -223,6 +277,9 @@ void count_settle(const struct model *before, const struct model *after, const s
     }
     if (before->frame != FRAME_NONE && count > 0) {
         tally(SETTLE_IN_FRAME);
+        if (before->frame == FRAME_BEGUN) {
+            tally(SETTLE_LPC_TYPED);
+        }
         if (before->frame == FRAME_WRITE && before->clock < FRAME_CLOCK_ACT &&
             before->clock + count >= FRAME_CLOCK_ACT && (after->frame == FRAME_WRITE || count > 6)) {
             tally(SETTLE_FRAME_ACTED);

@@ -22,10 +22,10 @@ void record_trace(void)
     if (record == NULL) {
         return;
     }
-    uint8_t head[POD_SHEET_BYTES + 4];
-    (void)model_sheet_write(head, POD_SHEET_BYTES, trace.straps, trace.times);
+    uint8_t head[1 + POD_SHEET_BYTES + 4] = { (uint8_t)trace.part };
+    (void)model_sheet_write(head + 1, POD_SHEET_BYTES, trace.straps, trace.times);
     for (unsigned i = 0; i < 4; i++) {
-        head[POD_SHEET_BYTES + i] = (uint8_t)(trace.done >> 8 * i);
+        head[1 + POD_SHEET_BYTES + i] = (uint8_t)(trace.done >> 8 * i);
     }
     fwrite(head, 1, sizeof head, record);
     fwrite(trace.stream, 2, trace.done, record);

@@ -1,5 +1,5 @@
-/* The file that gets the traces that went through run, one behind the other: a bay sheet, the number of samples in four
- * bytes with the lowest first, and the samples. */
+/* The file that gets the traces that went through run, one behind the other: a byte with the part, a bay sheet, the
+ * number of samples in four bytes with the lowest first, and the samples. */
 #ifndef DIFF_RECORD_H
 #define DIFF_RECORD_H
 

@@ -59,7 +59,8 @@ static void expect_short_run(const struct model_report *want, const struct pod_r
 void try_run(void)
 {
     const size_t image_length = one_in(6) ? POD_IMAGE_BYTES - 1 + 2 * (size_t)rnd(2) : POD_IMAGE_BYTES;
-    const uint32_t straps = one_in(6) ? 16 + rnd(1000) : rnd(16);
+    const uint32_t part = maybe_no_part(4);
+    const uint32_t straps = maybe_no_straps(part, 4);
     const struct model_times t = maybe_bad_times(6);
     const uint32_t samples = one_in(4) ? 0 : rnd(SHORT);
     uint8_t lent[2 * SHORT + SPARE] = { 0 };
@@ -76,10 +77,13 @@ void try_run(void)
     memset(answers, FILLER, SHORT + SPARE);
     memset(model_answers, FILLER, SHORT + SPARE);
     const struct model_report want =
-        model_run(images.model_run, image_length, stream, length, model_answers, room, straps, t);
-    const struct pod_report got =
-        pod_run(images.run, image_length, stream, length, answers, room, straps, t.program, t.slice, t.pause);
+        model_run(images.model_run, image_length, stream, length, model_answers, room, part, straps, t);
+    const struct pod_report got = pod_run(images.run, image_length, stream, length, answers, room, part, straps,
+                                          t.program, t.slice, t.pause);
     expect_short_run(&want, &got);
+    if (want.number == POD_REFUSED_STRAPS) {
+        tally(part > POD_PART_LPC ? RUN_NO_PART : part == POD_PART_LPC ? RUN_LPC_STRAPS : RUN_FWH_STRAPS);
+    }
 }
 
 /* An answer of run that is not the one of the step: the samples up to there are laid out for the departure. */
@@ -98,7 +102,7 @@ static void run_library(void)
     memset(answers, FILLER, sizeof answers);
     const struct pod_report got =
         pod_run(images.run, POD_IMAGE_BYTES, trace.stream, 2 * (size_t)trace.done, answers,
-                (size_t)trace.done + extra, trace.straps, t->program, t->slice, t->pause);
+                (size_t)trace.done + extra, trace.part, trace.straps, t->program, t->slice, t->pause);
     expect_number("number of pod_run", POD_DONE, got.number);
     expect("samples of pod_run", trace.done, got.samples);
     for (uint32_t i = 0; i < trace.done + SPARE; i++) {
@@ -117,7 +121,7 @@ static void run_model(void)
 {
     memset(model_answers, FILLER, sizeof model_answers);
     const struct model_report own = model_run(images.model_run, POD_IMAGE_BYTES, trace.stream, 2 * (size_t)trace.done,
-                                              model_answers, trace.done, trace.straps, trace.times);
+                                              model_answers, trace.done, trace.part, trace.straps, trace.times);
     if (own.number != POD_DONE || own.samples != trace.done || own.status != model_status(&model) ||
         own.marks != model_marks(&model) || memcmp(model_answers, answers, sizeof answers) != 0) {
         departure("the model's run differs from its steps");
@@ -131,4 +135,5 @@ void run_whole_trace(void)
     run_library();
     run_model();
     tally(RUNS);
+    tally(trace.part == POD_PART_LPC ? RUNS_WHOLE_LPC : RUNS_WHOLE_FWH);
 }

@@ -143,10 +143,12 @@ void settle_in_frame(void)
     static const uint8_t bytes[] = { COMMAND_SUSPEND, COMMAND_SUSPEND, COMMAND_RESUME, COMMAND_RESUME,
                                      COMMAND_PROGRAM, COMMAND_STATUS,  COMMAND_ARRAY };
     const bool write = !one_in(5);
-    const uint32_t address = one_in(6) ? lock_address(some_block()) : some_array_address();
+    const uint32_t address =
+        one_in(6) ? lock_address(model.part, model.straps, some_block()) : some_array_address();
     const unsigned stop = one_in(2) ? FRAME_CLOCK_ACT - 1 : 1 + rnd(FRAME_WRITE_CLOCKS - 1);
     const uint8_t byte = bytes[rnd(sizeof bytes)];
-    const struct frame frame = write ? frame_write(model.straps, address, byte) : frame_read(model.straps, address);
+    const struct frame frame = write ? frame_write(model.part, model.straps, address, byte)
+                                     : frame_read(model.part, model.straps, address);
     for (unsigned clock = 1; clock <= stop; clock++) {
         lay_clock(&frame, clock);
     }

@@ -2,6 +2,7 @@
 #include "diff/sides.h"
 
 #include "bus/addresses.h"
+#include "bus/frames.h"
 #include "bus/pins.h"
 #include "diff/images.h"
 #include "diff/play.h"
@@ -21,17 +22,18 @@ bool step_rests;
 
 static bool pinpoint; /* looking for the clock of a departure that was found late */
 
-uint32_t sides_power_up(uint32_t straps, struct model_times times)
+uint32_t sides_power_up(uint32_t part, uint32_t straps, struct model_times times)
 {
     image_restore(images.model, trace.dirty);
     image_restore(images.step, trace.dirty);
     image_restore(images.clock, trace.dirty);
     trace.dirty = 0;
+    trace.part = part;
     trace.straps = straps;
     trace.times = times;
     trace.done = 0;
-    const struct pod_powered up = pod_power_up(straps, times.program, times.slice, times.pause);
-    expect("number of the model's power-up", POD_DONE, model_power_up(&model, straps, times));
+    const struct pod_powered up = pod_power_up(part, straps, times.program, times.slice, times.pause);
+    expect("number of the model's power-up", POD_DONE, model_power_up(&model, part, straps, times));
     step_device = up.device;
     clock_device = up.device;
     return up.number;
@@ -72,8 +74,24 @@ void expect_blocks(const struct model *before)
     }
 }
 
+/* The frame in progress; its address counts from the clock on that empties it. */
+static void expect_same_frame(const struct pod_frame *frame)
+{
+    expect("kind of the frame", model.frame, frame->kind);
+    if (model.frame == FRAME_NONE) {
+        return;
+    }
+    expect("clock of the frame", model.clock, frame->clock);
+    if (model.clock >= FRAME_CLOCK_SELECT) {
+        expect("address of the frame", model.address, frame->address);
+    }
+}
+
 void expect_same_state(void)
 {
+    expect("part of pod_clock's device", model.part, clock_device.part);
+    expect("straps of pod_clock's device", model.straps, clock_device.straps);
+    expect_same_frame(&clock_device.frame);
     expect("status of pod_clock's device", model_status(&model), pod_status(clock_device));
     expect("marks of pod_clock's device", model_marks(&model), pod_marks(clock_device));
     if (!step_rests && !same_device(&clock_device, &step_device)) {

@@ -14,12 +14,12 @@ extern struct pod_device clock_device; /* what pod_clock changes in place */
 extern bool step_rests;                /* a settle does the part of pod_step in the samples that come */
 
 /* All of them fresh from power-up on the image that a trace begins with; gives the library's number. */
-uint32_t sides_power_up(uint32_t straps, struct model_times times);
+uint32_t sides_power_up(uint32_t part, uint32_t straps, struct model_times times);
 
 /* One sample through the three of them, compared; none where the trace has all its clocks. */
 void tick(uint16_t sample);
 
-/* The devices have the model's status and marks, and are the same. */
+/* The devices have the model's part, straps, frame, status and marks, and are the same. */
 void expect_same_state(void);
 
 /* An image against the model's, byte by byte. */

@@ -18,8 +18,9 @@ _Noreturn void departure(const char *format, ...)
     va_start(list, format);
     vprintf(format, list);
     va_end(list);
-    printf("\ndiff: straps %" PRIu32 ", times %" PRIu32 " %" PRIu32 " %" PRIu32 "; the samples up to there:",
-           trace.straps, trace.times.program, trace.times.slice, trace.times.pause);
+    printf("\ndiff: part %" PRIu32 ", straps %" PRIu32 ", times %" PRIu32 " %" PRIu32 " %" PRIu32
+           "; the samples up to there:",
+           trace.part, trace.straps, trace.times.program, trace.times.slice, trace.times.pause);
     for (uint32_t i = LAST_SAMPLES; i > 0; i--) {
         if (i <= trace.done) {
             printf(" %04X", (unsigned)trace.last[(trace.done - i) % LAST_SAMPLES]);

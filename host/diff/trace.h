@@ -19,7 +19,8 @@ enum {
 struct trace {
     uint64_t seed;
     bool after_all;           /* it comes after all that have seeds */
-    uint32_t straps;          /* at its power-up */
+    uint32_t part;            /* at its power-up */
+    uint32_t straps;          /* the same */
     struct model_times times; /* the same */
     uint32_t length;          /* clocks that it is to have */
     uint32_t done;            /* clocks of it that are done */

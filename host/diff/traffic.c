@@ -2,6 +2,7 @@
 #include "diff/traffic.h"
 
 #include "bus/pins.h"
+#include "diff/choices.h"
 #include "diff/random.h"
 #include "diff/sides.h"
 #include "diff/trace.h"
@@ -57,7 +58,8 @@ void lay_clock(const struct frame *frame, unsigned clock)
 /* A low frame line inside a frame, often one that begins another. */
 static void break_off(void)
 {
-    const unsigned lines = one_in(2) ? rnd(16) : one_in(2) ? FRAME_TURNAROUND : FRAME_START_READ + rnd(2);
+    const unsigned start = model.part == POD_PART_LPC ? FRAME_START_LPC : FRAME_START_READ + rnd(2);
+    const unsigned lines = one_in(2) ? rnd(16) : one_in(2) ? FRAME_TURNAROUND : start;
     tick(frame_break(next_sample(FRAME_TURNAROUND), lines));
 }
 
@@ -92,7 +94,11 @@ static void send_odd(struct frame frame)
         frame.select = (uint8_t)(frame.select ^ 1u << rnd(4));
         break;
     case 2:
-        frame.size = (uint8_t)rnd(16);
+        if (frame.part == POD_PART_LPC) {
+            frame.address = flip_high_bit(frame.address);
+        } else {
+            frame.size = (uint8_t)rnd(16);
+        }
         break;
     case 3:
         frame.start = (uint8_t)rnd(16);
@@ -106,6 +112,9 @@ static void send_odd(struct frame frame)
 
 static void send_frame(struct frame frame, uint32_t odd)
 {
+    if (frame.part == POD_PART_LPC && one_in(3)) {
+        frame.select |= FRAME_TYPE_FREE;
+    }
     if (one_in(odd)) {
         send_odd(frame);
     } else {
@@ -115,12 +124,12 @@ static void send_frame(struct frame frame, uint32_t odd)
 
 void send_read(uint32_t address, uint32_t odd)
 {
-    send_frame(frame_read(model.straps, address), odd);
+    send_frame(frame_read(model.part, model.straps, address), odd);
 }
 
 void send_write(uint32_t address, uint8_t byte, uint32_t odd)
 {
-    send_frame(frame_write(model.straps, address, byte), odd);
+    send_frame(frame_write(model.part, model.straps, address, byte), odd);
 }
 
 void reset_device(void)

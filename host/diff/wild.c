@@ -7,12 +7,15 @@
 #include "diff/choices.h"
 #include "diff/counts.h"
 #include "diff/images.h"
+#include "diff/meant.h"
 #include "diff/random.h"
 #include "diff/refusals.h"
 #include "diff/sides.h"
 #include "diff/trace.h"
+#include "model.h"
 #include "pod.h"
 #include "test/same_device.h"
+#include "test/scope.h"
 
 #include <stdbool.h>
 #include <stddef.h>
@@ -69,25 +72,31 @@ static void wild_operation(struct pod_operation *o)
     }
 }
 
-static void wild_frame(struct pod_frame *frame)
+static void wild_frame(struct pod_frame *frame, uint32_t part)
 {
-    frame->kind = (uint8_t)rnd(POD_FRAME_WRITE + 1);
-    frame->clock = 0;
-    if (frame->kind != POD_FRAME_NONE) {
-        frame->clock = (uint8_t)about(1, (frame->kind == POD_FRAME_READ ? FRAME_READ_CLOCKS : FRAME_WRITE_CLOCKS) - 1);
+    const uint32_t first = part == POD_PART_LPC ? FRAME_CLOCK_SELECT : 1;
+    frame->kind = (uint8_t)rnd(POD_FRAME_BEGUN + 1);
+    frame->clock = (uint8_t)about(1, 1);
+    if (frame->kind == POD_FRAME_READ) {
+        frame->clock = (uint8_t)about(first, FRAME_READ_CLOCKS - 1);
+    } else if (frame->kind == POD_FRAME_WRITE) {
+        frame->clock = (uint8_t)about(first, FRAME_WRITE_CLOCKS - 1);
     }
     frame->byte = rnd_byte();
     frame->address = about(0, ADDRESS_MOST);
+    if (part == POD_PART_LPC && one_in(2)) {
+        frame->address = about(ADDRESS_LPC_HIGH, ADDRESS_LPC_MOST);
+    }
 }
 
 /* A field of a device, or some that go together, set to what may or may not be sound. */
 static void wild_field(struct pod_device *d)
 {
     uint8_t lock = 0;
-    switch (rnd(9)) {
+    switch (rnd(10)) {
     case 0:
     case 1:
-        wild_frame(&d->frame);
+        wild_frame(&d->frame, d->part);
         break;
     case 2:
     case 3:
@@ -107,8 +116,11 @@ static void wild_field(struct pod_device *d)
         lock = (uint8_t)about(0, 7);
         d->locks[rnd(POD_BLOCKS)] = lock;
         break;
+    case 8:
+        d->straps = (uint8_t)about(0, straps_most(d->part));
+        break;
     default:
-        d->straps = (uint8_t)about(0, POD_STRAPS_MOST);
+        d->part = (uint8_t)about(POD_PART_FWH, POD_PART_LPC);
         break;
     }
 }
@@ -136,8 +148,17 @@ static struct pod_device wild_device(void)
     return d;
 }
 
+/* The lines that let a frame go on, if this is one of its first clocks. */
+static unsigned likely_lines(const struct pod_device *d)
+{
+    if (d->part == POD_PART_FWH) {
+        return one_in(2) ? d->straps : 0;
+    }
+    return one_in(2) ? FRAME_TYPE_READ + rnd(4) : one_in(2) ? FRAME_START_LPC : 0xF;
+}
+
 /* A sample of any bits, but mostly one that lets a device go on. */
-static uint16_t wild_sample(uint8_t straps)
+static uint16_t wild_sample(const struct pod_device *d)
 {
     uint16_t sample = (uint16_t)rnd(65536);
     if (sample_voltage(sample) > POD_VOLTAGE_TWELVE) {
@@ -149,20 +170,45 @@ static uint16_t wild_sample(uint8_t straps)
     if (!one_in(60)) {
         sample |= POD_SAMPLE_RP | POD_SAMPLE_INIT;
     }
-    return one_in(3) ? sample_with_lines(sample, one_in(2) ? straps : 0) : sample;
+    return one_in(3) ? sample_with_lines(sample, likely_lines(d)) : sample;
+}
+
+/* One clock of the model beside what the library made of it. */
+static void step_model(struct model *m, uint16_t sample, const struct pod_stepped *stepped)
+{
+    const struct pod_device *d = &stepped->device;
+    uint8_t answer = 0;
+    expect("number of the model on wild bytes", POD_DONE,
+           model_step(m, images.wild_model, POD_IMAGE_BYTES, sample, &answer));
+    expect("answer of pod_step on wild bytes", answer, stepped->answer);
+    expect("status of wild bytes", model_status(m), pod_status(*d));
+    expect("marks of wild bytes", model_marks(m), pod_marks(*d));
+    expect("part of wild bytes", m->part, d->part);
+    expect("straps of wild bytes", m->straps, d->straps);
+    expect("mode of wild bytes", m->mode, d->controller.mode);
+    expect("setup of wild bytes", m->setup, d->controller.setup);
+    expect("frame of wild bytes", m->frame, d->frame.kind);
+    if (m->frame != FRAME_NONE && m->clock >= FRAME_CLOCK_JUDGED) {
+        expect("address of the frame of wild bytes", m->address, d->frame.address);
+    }
+    if (memcmp(m->locks, d->locks, sizeof m->locks) != 0) {
+        departure("the locks of wild bytes");
+    }
 }
 
 static void step_wild(struct pod_device d)
 {
     struct pod_device kept = d;
+    struct model meant = model_meant(&d);
     const uint32_t clocks = 1 + rnd(60);
     for (uint32_t i = 0; i < clocks; i++) {
-        const uint16_t sample = wild_sample(d.straps);
+        const uint16_t sample = wild_sample(&d);
         const struct pod_stepped stepped = pod_step(d, images.wild, POD_IMAGE_BYTES, sample);
         const struct pod_clocked clocked = pod_clock(&kept, images.wild_clock, POD_IMAGE_BYTES, sample);
         expect("number of pod_step on wild bytes", POD_DONE, stepped.number);
         expect("number of pod_clock on wild bytes", POD_DONE, clocked.number);
         expect("answer of pod_clock on wild bytes", stepped.answer, clocked.answer);
+        step_model(&meant, sample, &stepped);
         d = stepped.device;
         if (!same_device(&d, &kept)) {
             departure("the devices of pod_clock and pod_step differ on wild bytes");
@@ -171,20 +217,32 @@ static void step_wild(struct pod_device d)
     if (memcmp(images.wild, images.wild_clock, POD_IMAGE_BYTES) != 0) {
         departure("the images of pod_clock and pod_step differ on wild bytes");
     }
+    if (memcmp(images.wild, images.wild_model, POD_IMAGE_BYTES) != 0) {
+        departure("the images of pod_step and the model differ on wild bytes");
+    }
+}
+
+/* A write that has taken one nibble of its byte holds no more than that. What becomes of more, nothing says. */
+static void keep_one_nibble(struct pod_frame *frame)
+{
+    if (frame->kind == POD_FRAME_WRITE && frame->clock == FRAME_CLOCK_WRITTEN) {
+        frame->byte &= POD_SAMPLE_LINES;
+    }
 }
 
 void try_wild_device(void)
 {
-    const struct pod_device d = wild_device();
+    struct pod_device d = wild_device();
+    keep_one_nibble(&d.frame);
     const struct pod_powered set = pod_set_times(d, 1, 1, 1);
     trace.tried = &d;
-    if (set.number == POD_REFUSED_DEVICE) {
+    if (!is_sound(&d)) {
         expect_refused("wild bytes", &d);
         tally(WILD_REFUSED);
     } else {
         expect("number of pod_set_times on wild bytes", POD_DONE, set.number);
         step_wild(d);
-        tally(WILD_STEPPED);
+        tally(d.part == POD_PART_LPC ? WILD_STEPPED_LPC : WILD_STEPPED_FWH);
     }
     trace.tried = NULL;
 }

@@ -111,6 +111,10 @@ static int carry_stream(const struct task *task)
         { "trace", "../board.img", "in", "--times", "10,1,30", "--vcd", "out.vcd", NULL },
         { "trace", "../board.img", "-", "--times", "200,2,1", "--vcd", "-", NULL },
         { "trace", "../board.img", "in", "--times", "1,1,1", NULL },
+        { "run", "../board.img", "in", "--part", "lpc", "--times", "10,1,30", "--answers", "out.answers", NULL },
+        { "run", "../board.img", "-", "--part", "lpc", "--straps", "2", "--save", "out.img", NULL },
+        { "trace", "../board.img", "in", "--part", "lpc", "--times", "10,1,30", "--vcd", "out.vcd", NULL },
+        { "trace", "../board.img", "-", "--part", "lpc", "--times", "1,1,1", NULL },
     };
     must_put("in", task->input->at, task->input->length);
     must_stand_in("in");
@@ -124,6 +128,8 @@ static int carry_image(const struct task *task)
         { "run", "-", "../short.stream", "--times", "1,1,1", "--save", "-", NULL },
         { "trace", "in", "../short.stream", "--times", "10,1,30", "--vcd", "out.vcd", NULL },
         { "run", "../board.img", "in", NULL },
+        { "run", "in", "../short-lpc.stream", "--part", "lpc", "--times", "1,1,1", "--save", "out.img", NULL },
+        { "trace", "in", "../short-lpc.stream", "--part", "lpc", "--times", "10,1,30", NULL },
     };
     must_put("in", image_room, image_make(task->input->at, task->input->length));
     must_stand_in("in");
@@ -220,6 +226,7 @@ static int carry_rack(const struct task *task)
     char *ways[][8] = {
         { "rack", "--seconds", "5", "bays", "--save", "home", NULL },
         { "rack", "--seconds", "5", "bays", NULL },
+        { "rack", "--seconds", "5", "--part", "lpc", "bays", NULL },
     };
     if (mkdir("bays", 0700) != 0 || mkdir("home", 0700) != 0) {
         return NO_FILES;
@@ -233,7 +240,9 @@ static int carry_rack(const struct task *task)
 /* A server over a line, with what bay serve does behind it. */
 static int carry_serprog(const struct task *task)
 {
-    static const struct settings settings[] = { { 0, 10, 1, 30 }, { 0, 1, 1, 1 }, { 15, 200, 2, 30 } };
+    static const struct settings settings[] = { { POD_PART_FWH, 0, 10, 1, 30 }, { POD_PART_FWH, 0, 1, 1, 1 },
+                                                { POD_PART_FWH, 15, 200, 2, 30 }, { POD_PART_LPC, 0, 10, 1, 30 },
+                                                { POD_PART_LPC, 0, 1, 1, 1 }, { POD_PART_LPC, 3, 200, 2, 30 } };
     static struct link link;
     static struct serprog serprog;
     struct bench bench = { .image = image_room, .image_length = POD_IMAGE_BYTES, .idle = POD_SAMPLE_IDLE };
@@ -273,18 +282,19 @@ const struct kind kinds[KINDS] = {
 };
 
 /* A stream with an erase, a program and reads, for those kinds that spoil something else. */
-static size_t short_stream(uint8_t *stream)
+static size_t short_stream(uint8_t *stream, unsigned part)
 {
+    const uint32_t erased = array_address(part, 0, 0x30000), programmed = array_address(part, 0, 0x50000);
     const struct frame frames[] = {
-        frame_write(0, lock_address(3), 0),
-        frame_write(0, array_address(0x30000), COMMAND_ERASE),
-        frame_write(0, array_address(0x30000), COMMAND_RESUME),
-        frame_read(0, array_address(0x30000)),
-        frame_write(0, lock_address(5), 0),
-        frame_write(0, array_address(0x50000), COMMAND_PROGRAM),
-        frame_write(0, array_address(0x50000), 0x5A),
-        frame_write(0, array_address(0x50000), COMMAND_ARRAY),
-        frame_read(0, ADDRESS_MAKER),
+        frame_write(part, 0, lock_address(part, 0, 3), 0),
+        frame_write(part, 0, erased, COMMAND_ERASE),
+        frame_write(part, 0, erased, COMMAND_RESUME),
+        frame_read(part, 0, erased),
+        frame_write(part, 0, lock_address(part, 0, 5), 0),
+        frame_write(part, 0, programmed, COMMAND_PROGRAM),
+        frame_write(part, 0, programmed, 0x5A),
+        frame_write(part, 0, programmed, COMMAND_ARRAY),
+        frame_read(part, 0, inputs_address(part, 0)),
     };
     enum { REST = 400 };
     size_t at = 0;
@@ -302,5 +312,6 @@ bool common_files(void)
 {
     memset(image_room, 0xA5, POD_IMAGE_BYTES);
     return file_put("board.img", image_room, POD_IMAGE_BYTES) &&
-           file_put("short.stream", image_room, short_stream(image_room));
+           file_put("short.stream", image_room, short_stream(image_room, POD_PART_FWH)) &&
+           file_put("short-lpc.stream", image_room, short_stream(image_room, POD_PART_LPC));
 }

@@ -20,28 +20,35 @@ static uint8_t draw_command(struct draws *draws)
 }
 
 /* The array, the lock registers, the other registers, or anywhere. */
-static uint32_t draw_address(struct draws *draws)
+static uint32_t draw_address(struct draws *draws, unsigned part, unsigned straps)
 {
+    const uint32_t inputs = inputs_address(part, straps);
     uint32_t block = (uint32_t)draw_below(draws, POD_BLOCKS);
     switch (draw_below(draws, 4)) {
     case 0:
-        return lock_address(block);
+        return lock_address(part, straps, block);
     case 1:
-        return ADDRESS_MAKER + (uint32_t)draw_below(draws, ADDRESS_INPUTS + 0x10 - ADDRESS_MAKER);
+        return inputs + 0x10 - (uint32_t)draw_below(draws, ADDRESS_INPUTS + 0x10 - ADDRESS_MAKER);
     case 2:
-        return (uint32_t)draw(draws) & ADDRESS_MOST;
+        return (uint32_t)draw(draws) & address_most(part);
     default:
-        return array_address(block * POD_BLOCK_BYTES + (uint32_t)draw_below(draws, 4));
+        return array_address(part, straps, block * POD_BLOCK_BYTES + (uint32_t)draw_below(draws, 4));
     }
 }
 
+/* A frame of either part, mostly one for straps 0; on LPC seldom of a cycle type that is none. */
 size_t piece_frame(struct draws *draws, uint8_t *room)
 {
     uint16_t samples[FRAME_MOST_CLOCKS];
-    unsigned select = draw_one_in(draws, 16) ? (unsigned)draw_below(draws, 16) : 0;
+    unsigned part = (unsigned)draw_below(draws, POD_PART_LPC + 1);
+    unsigned straps = draw_one_in(draws, 16) ? (unsigned)draw_below(draws, 16) : 0;
+    uint32_t address = draw_address(draws, part, straps);
     uint16_t idle = POD_SAMPLE_IDLE;
-    struct frame frame = draw_one_in(draws, 3) ? frame_read(select, draw_address(draws))
-                                               : frame_write(select, draw_address(draws), draw_command(draws));
+    struct frame frame = draw_one_in(draws, 3) ? frame_read(part, straps, address)
+                                               : frame_write(part, straps, address, draw_command(draws));
+    if (part == POD_PART_LPC && draw_one_in(draws, 16)) {
+        frame.select = (uint8_t)draw_below(draws, 16);
+    }
     if (draw_one_in(draws, 8)) {
         idle = sample_with_voltage((uint16_t)draw(draws) | POD_SAMPLE_RP | POD_SAMPLE_INIT | POD_SAMPLE_FRAME,
                                    (unsigned)draw_below(draws, 3));
@@ -73,12 +80,12 @@ size_t piece_request(struct draws *draws, uint8_t *room)
         size_t data = draw_below(draws, 64);
         uint32_t told = draw_one_in(draws, 4) ? draw_border(draws) : (uint32_t)data;
         length += put24(room + length, told);
-        length += put24(room + length, draw_address(draws));
+        length += put24(room + length, draw_address(draws, POD_PART_FWH, 0));
         for (size_t i = 0; i < data; i++) {
             room[length++] = draw_command(draws);
         }
     } else if (code == 0x09 || code == 0x0A || code == 0x0C) {
-        length += put24(room + length, draw_address(draws));
+        length += put24(room + length, draw_address(draws, POD_PART_FWH, 0));
     }
     if (code == 0x0A) {
         length += put24(room + length, draw_one_in(draws, 8) ? draw_border(draws) : (uint32_t)draw_below(draws, 64));
@@ -116,6 +123,10 @@ size_t piece_words(struct draws *draws, uint8_t *room)
 {
     static const char *const names[] = { "straps", "program", "slice", "pause" };
     static const char *const ends[] = { "\n", " microseconds\n", "\tmicroseconds\r\n", "", " microseconds more\n" };
+    if (draw_one_in(draws, 8)) {
+        /* a sheet says no part */
+        return say(room, "part %s\n", draw_one_in(draws, 2) ? "lpc" : draw_one_in(draws, 2) ? "fwh" : "1");
+    }
     const char *name = names[draw_below(draws, sizeof names / sizeof names[0])];
     const char *end = ends[draw_below(draws, sizeof ends / sizeof ends[0])];
     return say(room, "%s %u%s", name, (unsigned)draw_border(draws), end);

@@ -30,7 +30,7 @@ struct options {
     bool check;
 };
 
-static struct row rows[TRAFFIC_KINDS + 1];
+static struct row rows[TRAFFIC_ROWS + 2];
 static size_t row_count;
 
 static bool take_options(int argc, char **argv, struct options *options)
@@ -80,12 +80,13 @@ static void print_head(const struct options *options)
 
 static void print_mix(void)
 {
-    const struct row *mix = &rows[row_count - 1];
-    if (row_count == TRAFFIC_KINDS) {
+    const struct row *fwh = &rows[TRAFFIC_ROWS], *lpc = &rows[TRAFFIC_ROWS + 1];
+    if (row_count == TRAFFIC_ROWS) {
         printf("The differential test's mix is left out: no traces were given.\n");
     } else {
-        printf("The mix is %zu traces of the differential test, %s samples in all, each from its own power-up.\n",
-               mix->count, with_commas(mix->samples));
+        printf("The mix is %zu traces of the differential test on FWH and %zu on LPC, %s samples in all, each from\n"
+               "its own power-up.\n",
+               fwh->count, lpc->count, with_commas(fwh->samples + lpc->samples));
     }
 }
 
@@ -96,7 +97,8 @@ static void print_tables(void)
            "Million clocks in a second, on streams of %s samples. A ratio above 1 says that the pod is the faster.\n"
            "model_run steps every clock; pod_run takes what it knows by looking ahead at once. In the rows of an erase "
            "begun\n"
-           "a slice takes 3,906 µs, so that none ends in the stream.\n",
+           "a slice takes 3,906 µs, so that none ends in the stream. A row of LPC has the traffic of the row above it\n"
+           "laid as LPC frames; the last ratio is that of their speeds.\n",
            with_commas(MOST_SAMPLES));
     print_mix();
     printf("\n");
@@ -124,9 +126,10 @@ static void new_rows(const char *traces)
     base_image_new();
     ways_new();
     traffic_rows(rows);
-    row_count = TRAFFIC_KINDS;
+    row_count = TRAFFIC_ROWS;
     if (traces != NULL) {
-        rows[row_count++] = traces_read(traces);
+        rows[row_count++] = traces_read(traces, POD_PART_FWH);
+        rows[row_count++] = traces_read(traces, POD_PART_LPC);
     }
 }
 

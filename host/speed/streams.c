@@ -7,9 +7,9 @@
 #include <stdlib.h>
 #include <string.h>
 
-struct stream stream_of(uint32_t straps, struct pod_times times, const uint8_t *bytes, size_t count)
+struct stream stream_of(uint32_t part, uint32_t straps, struct pod_times times, const uint8_t *bytes, size_t count)
 {
-    struct stream stream = { .straps = straps, .times = times, .count = count };
+    struct stream stream = { .part = part, .straps = straps, .times = times, .count = count };
     stream.bytes = room_for(2 * count);
     stream.samples = room_for(count * sizeof stream.samples[0]);
     memcpy(stream.bytes, bytes, 2 * count);

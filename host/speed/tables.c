@@ -34,8 +34,15 @@ static void time_round(struct measure *m, const struct row *row, enum way way)
     measure_note(m, spent, times);
 }
 
+/* How much faster a way takes a row than another, of which the samples may be others. */
+static double ratio_of_rows(const struct row *row, double best, const struct row *other, double other_best)
+{
+    return (double)row->samples / best / ((double)other->samples / other_best);
+}
+
 static void print_title(const enum way *these, size_t count, int *columns)
 {
+    static const char *const again = " LPC / FWH";
     columns[0] = NAME_WIDTH;
     print_left("stream", NAME_WIDTH);
     for (size_t i = 0; i < count; i++) {
@@ -46,8 +53,12 @@ static void print_title(const enum way *these, size_t count, int *columns)
         columns[count + i] = (int)(strlen(way_name(these[i])) + strlen(way_name(these[0])) + 3);
         printf("| %s / %s ", way_name(these[i]), way_name(these[0]));
     }
+    for (size_t i = 1; i < count; i++) {
+        columns[2 * count - 1 + i] = (int)(strlen(way_name(these[i])) + strlen(again));
+        printf("| %s%s ", way_name(these[i]), again);
+    }
     printf("|\n");
-    print_rule(columns, 2 * count);
+    print_rule(columns, 3 * count - 1);
 }
 
 /* A round of each row, then the next round: a busy minute of the machine meets all rows alike. */
@@ -68,7 +79,7 @@ static void time_streams(const struct row *rows, size_t row_count, const enum wa
 void print_streams(const struct row *rows, size_t row_count, const enum way *these, size_t count)
 {
     struct measure measures[MOST_ROWS][WAYS] = { { { 0, 0 } } };
-    int columns[2 * WAYS];
+    int columns[3 * WAYS];
     time_streams(rows, row_count, these, count, measures);
     print_title(these, count, columns);
     for (size_t r = 0; r < row_count; r++) {
@@ -78,6 +89,14 @@ void print_streams(const struct row *rows, size_t row_count, const enum way *the
         }
         for (size_t i = 1; i < count; i++) {
             printf("| %*.3f ", columns[count + i], measures[r][0].best / measures[r][i].best);
+        }
+        for (size_t i = 1; i < count; i++) {
+            if (rows[r].again) {
+                printf("| %*.3f ", columns[2 * count - 1 + i],
+                       ratio_of_rows(&rows[r], measures[r][i].best, &rows[r - 1], measures[r - 1][i].best));
+            } else {
+                printf("| %*s ", columns[2 * count - 1 + i], "");
+            }
         }
         printf("|\n");
     }

@@ -7,9 +7,10 @@
 
 #include <stddef.h>
 
-enum { MOST_ROWS = 16 };
+enum { MOST_ROWS = 20 };
 
-/* Times some ways of all rows and prints million clocks in a second of each, and its ratio to the first. */
+/* Times some ways of all rows and prints million clocks in a second of each, and its ratio to the first; where a row is
+ * the one before it once more on LPC, the ratio of the two as well. */
 void print_streams(const struct row *rows, size_t row_count, const enum way *these, size_t count);
 
 #endif

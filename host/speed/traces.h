@@ -4,7 +4,8 @@
 
 #include "speed/streams.h"
 
-/* All traces of a file, as one row. Ends the program where the file holds anything else. */
-struct row traces_read(const char *path);
+/* All traces of a file that are of this part, as one row. Ends the program where the file holds none, or anything
+ * else. */
+struct row traces_read(const char *path, uint32_t part);
 
 #endif

@@ -21,28 +21,30 @@ struct far_end far_end;
 
 /* The stream being laid. */
 static struct {
+    uint32_t part;
     struct pod_times times;
     size_t count;
     uint8_t bytes[POD_STREAM_BYTES];
 } laid;
 
-void traffic_begin(struct pod_times times)
+void traffic_begin(uint32_t part, struct pod_times times)
 {
     const struct model_times model_times = { times.program, times.slice, times.pause };
+    laid.part = part;
     laid.times = times;
     laid.count = 0;
     if (far_end.image == NULL) {
         far_end.image = room_for(POD_IMAGE_BYTES);
     }
     memcpy(far_end.image, base_image, POD_IMAGE_BYTES);
-    if (model_power_up(&far_end.model, STRAPS, model_times) != NUMBER_DONE) {
+    if (model_power_up(&far_end.model, part, STRAPS, model_times) != NUMBER_DONE) {
         give_up("expected a part that powers up, found it refused", "");
     }
 }
 
 struct stream traffic_end(void)
 {
-    return stream_of(STRAPS, laid.times, laid.bytes, laid.count);
+    return stream_of(laid.part, STRAPS, laid.times, laid.bytes, laid.count);
 }
 
 void traffic_free(void)
@@ -87,41 +89,46 @@ static uint8_t lay_frame(const struct frame *frame)
 
 static uint8_t lay_read(uint32_t address)
 {
-    const struct frame frame = frame_read(STRAPS, address);
+    const struct frame frame = frame_read(laid.part, STRAPS, address);
     return lay_frame(&frame);
 }
 
 static void lay_write(uint32_t address, uint8_t byte)
 {
-    const struct frame frame = frame_write(STRAPS, address, byte);
+    const struct frame frame = frame_write(laid.part, STRAPS, address, byte);
     lay_frame(&frame);
 }
 
 void traffic_unlock(uint32_t block)
 {
-    lay_write(lock_address(block), 0);
+    lay_write(lock_address(laid.part, STRAPS, block), 0);
+}
+
+static uint32_t in_array(uint32_t place)
+{
+    return array_address(laid.part, STRAPS, place);
 }
 
 void traffic_begin_program(uint32_t place, uint8_t byte)
 {
-    lay_write(array_address(place), COMMAND_PROGRAM);
-    lay_write(array_address(place), byte);
+    lay_write(in_array(place), COMMAND_PROGRAM);
+    lay_write(in_array(place), byte);
 }
 
 void traffic_begin_erase(uint32_t block)
 {
-    lay_write(array_address(block * POD_BLOCK_BYTES), COMMAND_ERASE);
-    lay_write(array_address(block * POD_BLOCK_BYTES), COMMAND_RESUME);
+    lay_write(in_array(block * POD_BLOCK_BYTES), COMMAND_ERASE);
+    lay_write(in_array(block * POD_BLOCK_BYTES), COMMAND_RESUME);
 }
 
 void traffic_suspend(void)
 {
-    lay_write(ADDRESS_ARRAY, COMMAND_SUSPEND);
+    lay_write(in_array(0), COMMAND_SUSPEND);
 }
 
 static void poll_status(void)
 {
-    while (!is_full() && (lay_read(ADDRESS_ARRAY) & POD_STATUS_READY) == 0) {
+    while (!is_full() && (lay_read(in_array(0)) & POD_STATUS_READY) == 0) {
     }
 }
 
@@ -139,22 +146,24 @@ static void idle_bus(void)
     }
 }
 
+/* On LPC nothing stands where FWH has the maker and the device code. */
 static void register_reads(void)
 {
+    const uint32_t inputs = inputs_address(laid.part, STRAPS);
     while (!is_full()) {
         for (uint32_t block = 0; block < POD_BLOCKS; block++) {
-            lay_read(lock_address(block));
+            lay_read(lock_address(laid.part, STRAPS, block));
         }
-        lay_read(ADDRESS_MAKER);
-        lay_read(ADDRESS_DEVICE);
-        lay_read(ADDRESS_INPUTS);
+        lay_read(inputs - (ADDRESS_INPUTS - ADDRESS_MAKER));
+        lay_read(inputs - (ADDRESS_INPUTS - ADDRESS_DEVICE));
+        lay_read(inputs);
     }
 }
 
 static void array_reads(void)
 {
     for (uint32_t place = 0; !is_full(); place = (place + STRIDE) % POD_IMAGE_BYTES) {
-        lay_read(array_address(place));
+        lay_read(in_array(place));
     }
 }
 
@@ -200,27 +209,40 @@ static void erases_short(void)
     }
 }
 
+/* lpc: its name on LPC, if it has frames. */
 static const struct {
-    const char *name;
+    const char *name, *lpc;
     struct pod_times times;
     void (*lay)(void);
-} kinds[TRAFFIC_KINDS] = {
-    { "idle bus", { 10, 3906, 30 }, idle_bus },
-    { "register reads", { 10, 3906, 30 }, register_reads },
-    { "array reads", { 10, 3906, 30 }, array_reads },
-    { "programs, 10 µs, status polled", { 10, 3906, 30 }, programs_polled },
-    { "programs, 10 µs, idle wait", { 10, 3906, 30 }, programs_waited },
-    { "erase begun, idle bus", { 10, 3906, 30 }, erase_idle },
-    { "erase begun, status polled", { 10, 3906, 30 }, erase_polled },
-    { "erases, slices of 1 µs, idle wait", { 10, 1, 30 }, erases_short },
+} kinds[] = {
+    { "idle bus", NULL, { 10, 3906, 30 }, idle_bus },
+    { "register reads", "register reads, LPC", { 10, 3906, 30 }, register_reads },
+    { "array reads", "array reads, LPC", { 10, 3906, 30 }, array_reads },
+    { "programs, 10 µs, status polled", "programs, 10 µs, status polled, LPC", { 10, 3906, 30 }, programs_polled },
+    { "programs, 10 µs, idle wait", "programs, 10 µs, idle wait, LPC", { 10, 3906, 30 }, programs_waited },
+    { "erase begun, idle bus", "erase begun, idle bus, LPC", { 10, 3906, 30 }, erase_idle },
+    { "erase begun, status polled", "erase begun, status polled, LPC", { 10, 3906, 30 }, erase_polled },
+    { "erases, slices of 1 µs, idle wait", "erases, slices of 1 µs, idle wait, LPC", { 10, 1, 30 }, erases_short },
 };
+enum { KINDS = sizeof kinds / sizeof kinds[0] };
+_Static_assert(TRAFFIC_ROWS == 2 * KINDS - 1, "a row of each kind on each bus, but for the idle one");
 
-void traffic_rows(struct row rows[TRAFFIC_KINDS])
+static struct row traffic_row(size_t kind, uint32_t part)
 {
-    for (size_t i = 0; i < TRAFFIC_KINDS; i++) {
-        rows[i] = (struct row){ .name = kinds[i].name };
-        traffic_begin(kinds[i].times);
-        kinds[i].lay();
-        row_add(&rows[i], traffic_end());
+    const bool lpc = part == POD_PART_LPC;
+    struct row row = { .name = lpc ? kinds[kind].lpc : kinds[kind].name, .again = lpc };
+    traffic_begin(part, kinds[kind].times);
+    kinds[kind].lay();
+    row_add(&row, traffic_end());
+    return row;
+}
+
+void traffic_rows(struct row rows[TRAFFIC_ROWS])
+{
+    for (size_t kind = 0; kind < KINDS; kind++) {
+        *rows++ = traffic_row(kind, POD_PART_FWH);
+        if (kinds[kind].lpc != NULL) {
+            *rows++ = traffic_row(kind, POD_PART_LPC);
+        }
     }
 }

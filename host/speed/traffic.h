@@ -15,8 +15,8 @@ struct far_end {
 };
 extern struct far_end far_end;
 
-/* A new stream, from power-up with straps 0 on the base image. */
-void traffic_begin(struct pod_times times);
+/* A new stream, from power-up of a part with straps 0 on the base image. */
+void traffic_begin(uint32_t part, struct pod_times times);
 
 void traffic_unlock(uint32_t block);
 void traffic_begin_program(uint32_t place, uint8_t byte);
@@ -26,9 +26,10 @@ void traffic_suspend(void);
 /* What was laid since. */
 struct stream traffic_end(void);
 
-/* The kinds of traffic that are measured, a row of one stream each. */
-enum { TRAFFIC_KINDS = 8 };
-void traffic_rows(struct row rows[TRAFFIC_KINDS]);
+/* The kinds of traffic that are measured, a row of one stream each, and behind each that has frames the same on
+ * LPC. */
+enum { TRAFFIC_ROWS = 15 };
+void traffic_rows(struct row rows[TRAFFIC_ROWS]);
 
 void traffic_free(void);
 

@@ -43,9 +43,9 @@ static const struct wait {
 enum { WAITS = sizeof waits / sizeof waits[0] };
 
 /* The device and the image after the frames that begin what is waited for. */
-static struct pod_device begin_wait(const struct wait *w)
+static struct pod_device begin_wait(const struct wait *w, uint32_t part)
 {
-    traffic_begin(w->times);
+    traffic_begin(part, w->times);
     traffic_unlock(BLOCK);
     if (w->begun == BEGUN_PROGRAM) {
         traffic_begin_program(PLACE, 0x0F);
@@ -56,7 +56,7 @@ static struct pod_device begin_wait(const struct wait *w)
         traffic_suspend();
     }
     struct stream s = traffic_end();
-    struct pod_device device = pod_power_up(s.straps, s.times.program, s.times.slice, s.times.pause).device;
+    struct pod_device device = pod_power_up(part, s.straps, s.times.program, s.times.slice, s.times.pause).device;
     memcpy(lent_image, base_image, POD_IMAGE_BYTES);
     for (size_t n = 0; n < s.count; n++) {
         pod_clock(&device, lent_image, POD_IMAGE_BYTES, s.samples[n]);
@@ -103,14 +103,19 @@ static void check_settled(const struct wait *w, struct pod_device device, const 
     sides_check(same_image(), "the image of pod_clock", w->name);
 }
 
+static void check_wait(const struct wait *w, uint32_t part)
+{
+    const struct pod_device device = begin_wait(w, part);
+    const struct pod_settled settled = pod_settle(device, lent_image, POD_IMAGE_BYTES, POD_SAMPLE_IDLE, UINT32_MAX);
+    check_settled(w, device, &settled);
+}
+
 void waits_check(void)
 {
     for (size_t i = 0; i < WAITS; i++) {
         if (!waits[i].scaled) {
-            const struct pod_device device = begin_wait(&waits[i]);
-            const struct pod_settled settled =
-                pod_settle(device, lent_image, POD_IMAGE_BYTES, POD_SAMPLE_IDLE, UINT32_MAX);
-            check_settled(&waits[i], device, &settled);
+            check_wait(&waits[i], POD_PART_FWH);
+            check_wait(&waits[i], POD_PART_LPC);
         }
     }
 }
@@ -161,7 +166,7 @@ struct timed {
 /* The first settle is the one that is compared, since that of the longest erase may be the only one. */
 static struct timed begin_timing(const struct wait *w)
 {
-    const struct pod_device device = begin_wait(w);
+    const struct pod_device device = begin_wait(w, POD_PART_FWH);
     struct timed t = { device, device, w->scaled ? SCALED_FROM : settle_count(w), { 0, 0 }, { 0, 0 } };
     struct pod_settled settled;
     const double first = time_settles(device, 1, &settled);

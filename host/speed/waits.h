@@ -7,10 +7,11 @@
 /* Clocks of a write frame behind the one on which it acts, with which a wait begins. */
 enum { AFTER_ACTING = FRAME_WRITE_CLOCKS - FRAME_CLOCK_ACT };
 
-/* Compares all waits but the one that is too long to be stepped whole. */
+/* Compares all waits on both parts, but the one that is too long to be stepped whole. */
 void waits_check(void);
 
-/* Compares and times all waits and prints what they took; prints nothing where a comparison failed. */
+/* Compares and times all waits on FWH, whose bus is idle, and prints what they took; prints nothing where a comparison
+ * failed. */
 void print_waits(void);
 
 #endif

@@ -41,29 +41,34 @@ static struct model_times model_times_of(const struct stream *s)
 static struct pod_report by_model_run(const struct stream *s, uint8_t *image, uint8_t *answers)
 {
     const struct model_report r = model_run(image, POD_IMAGE_BYTES, s->bytes, 2 * s->count, answers, s->count,
-                                            s->straps, model_times_of(s));
+                                            s->part, s->straps, model_times_of(s));
     return (struct pod_report){ r.number, r.samples, r.status, r.marks };
 }
 
 static struct pod_report by_pod_run(const struct stream *s, uint8_t *image, uint8_t *answers)
 {
-    return pod_run(image, POD_IMAGE_BYTES, s->bytes, 2 * s->count, answers, s->count, s->straps, s->times.program,
-                   s->times.slice, s->times.pause);
+    return pod_run(image, POD_IMAGE_BYTES, s->bytes, 2 * s->count, answers, s->count, s->part, s->straps,
+                   s->times.program, s->times.slice, s->times.pause);
 }
 
 static struct pod_report by_model_step(const struct stream *s, uint8_t *image, uint8_t *answers)
 {
     struct model m;
-    uint32_t number = model_power_up(&m, s->straps, model_times_of(s));
+    uint32_t number = model_power_up(&m, s->part, s->straps, model_times_of(s));
     for (size_t n = 0; n < s->count; n++) {
         number |= model_step(&m, image, POD_IMAGE_BYTES, s->samples[n], &answers[n]);
     }
     return (struct pod_report){ number, (uint32_t)s->count, model_status(&m), model_marks(&m) };
 }
 
+static struct pod_powered power_up(const struct stream *s)
+{
+    return pod_power_up(s->part, s->straps, s->times.program, s->times.slice, s->times.pause);
+}
+
 static struct pod_report by_pod_step(const struct stream *s, uint8_t *image, uint8_t *answers)
 {
-    const struct pod_powered up = pod_power_up(s->straps, s->times.program, s->times.slice, s->times.pause);
+    const struct pod_powered up = power_up(s);
     struct pod_device device = up.device;
     uint32_t number = up.number;
     for (size_t n = 0; n < s->count; n++) {
@@ -77,7 +82,7 @@ static struct pod_report by_pod_step(const struct stream *s, uint8_t *image, uin
 
 static struct pod_report by_pod_clock(const struct stream *s, uint8_t *image, uint8_t *answers)
 {
-    const struct pod_powered up = pod_power_up(s->straps, s->times.program, s->times.slice, s->times.pause);
+    const struct pod_powered up = power_up(s);
     struct pod_device device = up.device;
     uint32_t number = up.number;
     for (size_t n = 0; n < s->count; n++) {

@@ -1,6 +1,6 @@
-/* Holds the library and the second model to one another on what stands at an address: a read and a write at every
- * address near a register, at each of these with each one of its bits flipped, and at a million others; first step by
- * step, then in runs. */
+/* Holds the library and the second model to one another on what stands at an address, on FWH and on LPC with each of
+ * its straps: a read and a write at every address near a register, at each of these with each one of its bits flipped,
+ * and at many others; first step by step, then in runs. */
 #include "bus/addresses.h"
 #include "bus/frames.h"
 #include "bus/pins.h"
@@ -13,14 +13,18 @@
 #include <string.h>
 
 enum {
-    STRAPS = 9,
-    REGISTERS = POD_BLOCKS + 3,
-    NEAR = 2,         /* how far from a register still counts as near */
-    TURNS = 4,        /* an address near one is tried so often: bytes, inputs and, in steps, locks are others each time */
-    RANDOM = 1000000, /* addresses of any 28 bits */
+    FWH_STRAPS = 9,
+    REGISTERS = POD_BLOCKS + 3, /* on LPC nothing stands at the last two, where FWH has its codes */
+    NEAR = 2,                   /* how far from a register still counts as near */
+    TURNS = 4,                  /* bytes, inputs and, in steps, locks are others each time */
+    RANDOM = 1000000,           /* addresses of any bits on FWH */
+    LPC_RANDOM = 62500,         /* the same on LPC with each straps, and as many that could be the part's */
     BOTH_CLOCKS = FRAME_READ_CLOCKS + FRAME_WRITE_CLOCKS,
     RUN_SAMPLES = POD_STREAM_BYTES / 2
 };
+
+/* Whose addresses they are. */
+static uint32_t part, straps;
 
 static const struct model_times times = { .program = 10, .slice = 3906, .pause = 30 };
 
@@ -36,8 +40,8 @@ static size_t samples;
 static void lay_both(uint32_t address, uint16_t laid[BOTH_CLOCKS])
 {
     const uint16_t idle = sample_with_inputs(POD_SAMPLE_IDLE, any_below(32));
-    const struct frame read = frame_read(STRAPS, address);
-    const struct frame write = frame_write(STRAPS, address, (uint8_t)any_below(256));
+    const struct frame read = frame_read(part, straps, address);
+    const struct frame write = frame_write(part, straps, address, (uint8_t)any_below(256));
     uint16_t clocks[FRAME_MOST_CLOCKS];
     frame_lay(&read, idle, clocks);
     memcpy(laid, clocks, FRAME_READ_CLOCKS * sizeof laid[0]);
@@ -49,9 +53,9 @@ static void lay_both(uint32_t address, uint16_t laid[BOTH_CLOCKS])
 static void step_both(uint32_t address)
 {
     uint16_t laid[BOTH_CLOCKS];
-    struct pod_device device = pod_power_up(STRAPS, times.program, times.slice, times.pause).device;
+    struct pod_device device = pod_power_up(part, straps, times.program, times.slice, times.pause).device;
     struct model model;
-    model_power_up(&model, STRAPS, times);
+    model_power_up(&model, part, straps, times);
     for (size_t block = 0; block < POD_BLOCKS; block++) {
         device.locks[block] = model.locks[block] = (uint8_t)any_below(8);
     }
@@ -61,15 +65,15 @@ static void step_both(uint32_t address)
         const struct pod_clocked clocked = pod_clock(&device, image.bytes, POD_IMAGE_BYTES, laid[i]);
         const uint32_t number = model_step(&model, image.bytes, POD_IMAGE_BYTES, laid[i], &answer);
         if (number != POD_DONE || clocked.number != POD_DONE || clocked.answer != answer) {
-            fault("address %07X, sample %u: expected answer %02X, found number %u and answer %02X", (unsigned)address,
+            fault("address %08X, sample %u: expected answer %02X, found number %u and answer %02X", (unsigned)address,
                   i, answer, (unsigned)clocked.number, (unsigned)clocked.answer);
         }
     }
     if (memcmp(device.locks, model.locks, sizeof model.locks) != 0) {
-        fault("address %07X: expected the locks of the model after a write, found others", (unsigned)address);
+        fault("address %08X: expected the locks of the model after a write, found others", (unsigned)address);
     }
     if (device.controller.mode != model.mode || device.controller.setup != model.setup) {
-        fault("address %07X: expected mode %u and setup %u after a write, found %u and %u", (unsigned)address,
+        fault("address %08X: expected mode %u and setup %u after a write, found %u and %u", (unsigned)address,
               model.mode, model.setup, device.controller.mode, device.controller.setup);
     }
 }
@@ -78,10 +82,10 @@ static void step_both(uint32_t address)
 static void run_gathered(void)
 {
     const size_t bytes = 2 * samples;
-    const struct pod_report pod = pod_run(pod_image.bytes, POD_IMAGE_BYTES, stream, bytes, pod_answers, samples, STRAPS,
-                                          times.program, times.slice, times.pause);
+    const struct pod_report pod = pod_run(pod_image.bytes, POD_IMAGE_BYTES, stream, bytes, pod_answers, samples, part,
+                                          straps, times.program, times.slice, times.pause);
     const struct model_report model =
-        model_run(model_image.bytes, POD_IMAGE_BYTES, stream, bytes, model_answers, samples, STRAPS, times);
+        model_run(model_image.bytes, POD_IMAGE_BYTES, stream, bytes, model_answers, samples, part, straps, times);
     expect(POD_DONE, model.number, "number of a run of the model");
     expect(POD_DONE, pod.number, "number of a run");
     expect(model.samples, pod.samples, "samples of a run");
@@ -89,8 +93,8 @@ static void run_gathered(void)
     expect(model.marks, pod.marks, "marks after a run");
     for (size_t i = 0; i < samples; i++) {
         if (pod_answers[i] != model_answers[i]) {
-            fault("sample %zu of a run, in pair %zu of its frames: expected answer %02X, found %02X", i, i / BOTH_CLOCKS,
-                  model_answers[i], pod_answers[i]);
+            fault("sample %zu of a run, in pair %zu of its frames: expected answer %02X, found %02X", i,
+                  i / BOTH_CLOCKS, model_answers[i], pod_answers[i]);
             break;
         }
     }
@@ -112,21 +116,24 @@ static void gather_both(uint32_t address)
 
 static uint32_t register_address(uint32_t which)
 {
-    static const uint32_t own[] = { ADDRESS_INPUTS, ADDRESS_MAKER, ADDRESS_DEVICE };
-    return which < POD_BLOCKS ? lock_address(which) : own[which - POD_BLOCKS];
+    const uint32_t inputs = inputs_address(part, straps);
+    const uint32_t own[] = { inputs, inputs - (ADDRESS_INPUTS - ADDRESS_MAKER),
+                             inputs - (ADDRESS_INPUTS - ADDRESS_DEVICE) };
+    return which < POD_BLOCKS ? lock_address(part, straps, which) : own[which - POD_BLOCKS];
 }
 
 /* Every address near a register, and each with each one of its bits flipped; and the two ends. */
 static void each_near(void (*try)(uint32_t address))
 {
+    const unsigned bits = part == POD_PART_LPC ? 32 : 28;
     try(0);
-    try(ADDRESS_MOST);
+    try(address_most(part));
     for (uint32_t which = 0; which < REGISTERS; which++) {
         for (uint32_t step = 0; step <= 2 * NEAR; step++) {
             const uint32_t address = register_address(which) - NEAR + step;
             try(address);
-            for (uint32_t bit = 1; bit <= ADDRESS_MOST; bit <<= 1) {
-                try(address ^ bit);
+            for (unsigned bit = 0; bit < bits; bit++) {
+                try(address ^ 1u << bit);
             }
         }
     }
@@ -139,6 +146,72 @@ static void each_random(void (*try)(uint32_t address))
     }
 }
 
+/* Any 32 bits, and any 23 below those that all have to be 1: a quarter of these is the part's. */
+static void each_random_lpc(void (*try)(uint32_t address))
+{
+    for (uint32_t i = 0; i < LPC_RANDOM; i++) {
+        const uint32_t low = any_below(0x10000);
+        try(any_below(0x10000) << 16 | low);
+        try(ADDRESS_LPC_HIGH | any_below(0x800000));
+    }
+}
+
+/* A bit of each lock register's block, and of its low bits, in each of the four windows and in those of the array. */
+static void each_window(void (*try)(uint32_t address))
+{
+    for (uint32_t window = 0; window < 8; window++) {
+        for (uint32_t block = 0; block < POD_BLOCKS; block++) {
+            for (uint32_t low = 0; low <= 2 * NEAR; low++) {
+                try(ADDRESS_LPC_HIGH + window * POD_IMAGE_BYTES + block * POD_BLOCK_BYTES + low);
+            }
+        }
+    }
+}
+
+static void test_near(void)
+{
+    check_group("addresses: near the registers and with one bit flipped, straps %u, step by step", (unsigned)straps);
+    for (unsigned turn = 0; turn < TURNS; turn++) {
+        each_near(step_both);
+    }
+    check_group("addresses: near the registers and with one bit flipped, straps %u, in runs", (unsigned)straps);
+    for (unsigned turn = 0; turn < TURNS; turn++) {
+        each_near(gather_both);
+    }
+    run_gathered();
+}
+
+static void test_fwh(void)
+{
+    part = POD_PART_FWH;
+    straps = FWH_STRAPS;
+    check_about("FWH");
+    test_near();
+    check_group("addresses: a million of any 28 bits, step by step");
+    each_random(step_both);
+    check_group("addresses: a million of any 28 bits, in runs");
+    each_random(gather_both);
+    run_gathered();
+}
+
+static void test_lpc(void)
+{
+    part = POD_PART_LPC;
+    check_about("LPC");
+    for (straps = 0; straps <= POD_LPC_STRAPS_MOST; straps++) {
+        test_near();
+        check_group("addresses: every window, straps %u", (unsigned)straps);
+        each_window(step_both);
+        each_window(gather_both);
+        run_gathered();
+        check_group("addresses: many of any bits, straps %u, step by step", (unsigned)straps);
+        each_random_lpc(step_both);
+        check_group("addresses: many of any bits, straps %u, in runs", (unsigned)straps);
+        each_random_lpc(gather_both);
+        run_gathered();
+    }
+}
+
 int main(void)
 {
     image = lent_new(POD_IMAGE_BYTES);
@@ -148,22 +221,9 @@ int main(void)
     memcpy(pod_image.bytes, image.bytes, POD_IMAGE_BYTES);
     memcpy(model_image.bytes, image.bytes, POD_IMAGE_BYTES);
 
-    check_group("addresses: near the registers and with one bit flipped, step by step");
-    for (unsigned turn = 0; turn < TURNS; turn++) {
-        each_near(step_both);
-    }
-    check_group("addresses: a million of any 28 bits, step by step");
-    each_random(step_both);
+    test_fwh();
+    test_lpc();
     lent_stands(&image, "the image after single writes");
-
-    check_group("addresses: near the registers and with one bit flipped, in runs");
-    for (unsigned turn = 0; turn < TURNS; turn++) {
-        each_near(gather_both);
-    }
-    run_gathered();
-    check_group("addresses: a million of any 28 bits, in runs");
-    each_random(gather_both);
-    run_gathered();
     expect(0, memcmp(pod_image.bytes, model_image.bytes, POD_IMAGE_BYTES) != 0, "whether the images differ");
     lent_is_guarded(&pod_image, "the image of the runs");
 

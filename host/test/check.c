@@ -2,6 +2,7 @@
 #include "test/check.h"
 
 #include <stdarg.h>
+#include <stddef.h>
 #include <stdio.h>
 #include <stdlib.h>
 
@@ -9,6 +10,7 @@ enum { SHOWN = 5 /* faults of one group that are told in full */, NAME_ROOM = 16
 
 static struct {
     bool open;
+    const char *about;
     char group[NAME_ROOM];
     unsigned long passed, failed, faults;
 } count;
@@ -27,12 +29,21 @@ static void close_group(void)
     count.open = false;
 }
 
+void check_about(const char *about)
+{
+    count.about = about;
+}
+
 void check_group(const char *format, ...)
 {
     close_group();
+    size_t about = 0;
+    if (count.about != NULL) {
+        about = (size_t)snprintf(count.group, sizeof count.group, "%s, ", count.about);
+    }
     va_list list;
     va_start(list, format);
-    vsnprintf(count.group, sizeof count.group, format, list);
+    vsnprintf(count.group + about, sizeof count.group - about, format, list);
     va_end(list);
     count.open = true;
     count.faults = 0;

@@ -5,6 +5,9 @@
 #include <stdbool.h>
 #include <stdint.h>
 
+/* The groups that follow are about this: it stands before their names. */
+void check_about(const char *about);
+
 /* Closes the group before and begins one of this name. */
 __attribute__((format(printf, 1, 2))) void check_group(const char *format, ...);
 

@@ -1,19 +1,19 @@
 /* Drawing devices, samples and frames near the edges of their ranges. */
 #include "test/edges.h"
 
-#include "bus/addresses.h"
 #include "bus/commands.h"
 #include "bus/pins.h"
 #include "test/any.h"
 #include "test/fields.h"
 #include "test/scope.h"
+#include "test/tested.h"
 
 static struct pod_frame edge_frame(void)
 {
-    const uint8_t kind = (uint8_t)(POD_FRAME_READ + any_below(2));
-    const uint8_t clock = (uint8_t)(1 + any_below(FRAME_MOST_CLOCKS));
+    const uint8_t kind = (uint8_t)(POD_FRAME_READ + any_below(any_below(8) == 0 ? 3 : 2));
+    const uint8_t clock = (uint8_t)(1 + any_below(kind == POD_FRAME_BEGUN ? 2 : FRAME_MOST_CLOCKS));
     const uint32_t address =
-        any_below(2) != 0 ? array_address(any_below(POD_IMAGE_BYTES)) : lock_address(any_below(POD_BLOCKS));
+        any_below(2) != 0 ? in_array(any_below(POD_IMAGE_BYTES)) : in_lock(any_below(POD_BLOCKS));
     return (struct pod_frame){ .kind = kind, .clock = clock, .byte = (uint8_t)any_below(256), .address = address };
 }
 
@@ -75,20 +75,20 @@ static size_t lay_wait(uint16_t idle, uint16_t samples[FRAME_MOST_CLOCKS])
     return FRAME_MOST_CLOCKS;
 }
 
-size_t edge_traffic(unsigned straps, uint16_t samples[FRAME_MOST_CLOCKS])
+size_t edge_traffic(uint16_t samples[FRAME_MOST_CLOCKS])
 {
     static const uint8_t commands[] = { COMMAND_ARRAY,   COMMAND_STATUS,      COMMAND_SIGNATURE, COMMAND_CLEAR,
                                         COMMAND_PROGRAM, COMMAND_PROGRAM_TOO, COMMAND_ERASE,     COMMAND_SUSPEND,
                                         COMMAND_RESUME,  COMMAND_RESUME,      COMMAND_SUSPEND,   0x00 };
     const uint16_t idle = edge_idle();
     const uint32_t block = 13 + any_below(3);
-    const uint32_t address = array_address(POD_BLOCK_BYTES * block + any_below(2));
+    const uint32_t address = in_array(POD_BLOCK_BYTES * block + any_below(2));
     const uint32_t kind = any_below(8);
-    struct frame frame = frame_write(straps, address, commands[any_below(sizeof commands)]);
+    struct frame frame = write_of(address, commands[any_below(sizeof commands)]);
     if (kind == 0) {
-        frame = frame_read(straps, any_below(2) != 0 ? address : lock_address(any_below(POD_BLOCKS)));
+        frame = read_of(any_below(2) != 0 ? address : in_lock(any_below(POD_BLOCKS)), 0);
     } else if (kind == 1) {
-        frame = frame_write(straps, lock_address(block), any_below(4) != 0 ? 0 : (uint8_t)any_below(8));
+        frame = write_of(in_lock(block), any_below(4) != 0 ? 0 : any_below(8));
     }
     const size_t clocks = kind == 2 ? lay_wait(idle, samples) : frame_lay(&frame, idle, samples);
     samples[0] = sample_set(samples[0], once_in(400, POD_SAMPLE_RP), 0);

@@ -8,7 +8,7 @@
 #include <stddef.h>
 #include <stdint.h>
 
-/* A device of any kind, on the edge of something, perhaps over it. */
+/* A device of the part that is tested and of any kind, on the edge of something, perhaps over it. */
 struct pod_device edge_device(void);
 
 /* Any sample but those of voltage class 3, seldom a reset. */
@@ -16,6 +16,6 @@ uint16_t edge_sample(void);
 
 /* Lays a frame, a wait, or part of one, with a mind to start, suspend and resume operations in the blocks from 13 on;
  * gives its clocks. */
-size_t edge_traffic(unsigned straps, uint16_t samples[FRAME_MOST_CLOCKS]);
+size_t edge_traffic(uint16_t samples[FRAME_MOST_CLOCKS]);
 
 #endif

@@ -4,6 +4,7 @@
 #include "bus/addresses.h"
 #include "bus/frames.h"
 #include "bus/pins.h"
+#include "test/tested.h"
 
 struct pod_device after_clocks(struct pod_device device, uint32_t clocks)
 {
@@ -22,7 +23,7 @@ struct pod_device after_clocks(struct pod_device device, uint32_t clocks)
 
 struct pod_device after_reset(const struct pod_device *device)
 {
-    struct pod_device reset = fresh_device(device->straps, device->times);
+    struct pod_device reset = fresh_device(device->part, device->straps, device->times);
     const struct pod_operation *both[] = { &device->controller.outer, &device->controller.inner };
     uint32_t marks = device->controller.marks;
     for (size_t i = 0; i < 2; i++) {
@@ -140,27 +141,34 @@ struct pod_device after_setup(struct pod_device device, uint16_t sample, uint32_
     return device;
 }
 
+enum { ARRAY = false, LOCK = true };
+
 const struct written writes[WRITES] = {
-    { "signature mode", IS_READY, POD_SETUP_NONE, ADDRESS_ARRAY, COMMAND_SIGNATURE },
-    { "clear status", IS_READY, POD_SETUP_NONE, ADDRESS_ARRAY + 0x12345, COMMAND_CLEAR },
-    { "program setup", IS_READY, POD_SETUP_NONE, ADDRESS_ARRAY, COMMAND_PROGRAM },
-    { "erase setup", IS_READY, POD_SETUP_NONE, ADDRESS_ARRAY, COMMAND_ERASE },
-    { "program accepted", IS_READY, POD_SETUP_PROGRAM, ADDRESS_ARRAY + 0x23456, 0x0F },
-    { "erase accepted", IS_READY, POD_SETUP_ERASE, ADDRESS_ARRAY + 0x23456, COMMAND_RESUME },
-    { "erase not confirmed", IS_READY, POD_SETUP_ERASE, ADDRESS_ARRAY, 0x00 },
-    { "program into a locked block", IS_READY, POD_SETUP_PROGRAM, ADDRESS_ARRAY, 0x00 },
-    { "lock register", IS_READY, POD_SETUP_NONE, ADDRESS_LOCKS, 0x06 },
-    { "lock register beside a setup", IS_READY, POD_SETUP_ERASE, ADDRESS_LOCKS, 0x07 },
-    { "lock register while an erase runs", ERASE_RUNS, POD_SETUP_NONE, ADDRESS_LOCKS + 0x70000, 0x04 },
-    { "suspend of a program", PROGRAM_RUNS, POD_SETUP_NONE, ADDRESS_ARRAY, COMMAND_SUSPEND },
-    { "suspend of an erase", ERASE_RUNS, POD_SETUP_NONE, ADDRESS_ARRAY, COMMAND_SUSPEND },
-    { "status mode while an erase runs", ERASE_RUNS, POD_SETUP_NONE, ADDRESS_ARRAY, COMMAND_STATUS },
-    { "resume of a program", PROGRAM_RESTS, POD_SETUP_NONE, ADDRESS_ARRAY, COMMAND_RESUME },
-    { "resume of an erase", ERASE_RESTS, POD_SETUP_NONE, ADDRESS_ARRAY, COMMAND_RESUME },
-    { "program inside a suspended erase", ERASE_RESTS, POD_SETUP_PROGRAM, ADDRESS_ARRAY + 0x20000, 0x33 },
-    { "program into the suspended block", ERASE_RESTS, POD_SETUP_PROGRAM, ADDRESS_ARRAY + 0x7ABCD, 0x33 },
-    { "status mode inside a suspended erase", PROGRAM_IN_ERASE, POD_SETUP_NONE, ADDRESS_ARRAY, COMMAND_STATUS },
+    { "signature mode", IS_READY, POD_SETUP_NONE, ARRAY, 0, COMMAND_SIGNATURE },
+    { "clear status", IS_READY, POD_SETUP_NONE, ARRAY, 0x12345, COMMAND_CLEAR },
+    { "program setup", IS_READY, POD_SETUP_NONE, ARRAY, 0, COMMAND_PROGRAM },
+    { "erase setup", IS_READY, POD_SETUP_NONE, ARRAY, 0, COMMAND_ERASE },
+    { "program accepted", IS_READY, POD_SETUP_PROGRAM, ARRAY, 0x23456, 0x0F },
+    { "erase accepted", IS_READY, POD_SETUP_ERASE, ARRAY, 0x23456, COMMAND_RESUME },
+    { "erase not confirmed", IS_READY, POD_SETUP_ERASE, ARRAY, 0, 0x00 },
+    { "program into a locked block", IS_READY, POD_SETUP_PROGRAM, ARRAY, 0, 0x00 },
+    { "lock register", IS_READY, POD_SETUP_NONE, LOCK, 0, 0x06 },
+    { "lock register beside a setup", IS_READY, POD_SETUP_ERASE, LOCK, 0, 0x07 },
+    { "lock register while an erase runs", ERASE_RUNS, POD_SETUP_NONE, LOCK, 7, 0x04 },
+    { "suspend of a program", PROGRAM_RUNS, POD_SETUP_NONE, ARRAY, 0, COMMAND_SUSPEND },
+    { "suspend of an erase", ERASE_RUNS, POD_SETUP_NONE, ARRAY, 0, COMMAND_SUSPEND },
+    { "status mode while an erase runs", ERASE_RUNS, POD_SETUP_NONE, ARRAY, 0, COMMAND_STATUS },
+    { "resume of a program", PROGRAM_RESTS, POD_SETUP_NONE, ARRAY, 0, COMMAND_RESUME },
+    { "resume of an erase", ERASE_RESTS, POD_SETUP_NONE, ARRAY, 0, COMMAND_RESUME },
+    { "program inside a suspended erase", ERASE_RESTS, POD_SETUP_PROGRAM, ARRAY, 0x20000, 0x33 },
+    { "program into the suspended block", ERASE_RESTS, POD_SETUP_PROGRAM, ARRAY, 0x7ABCD, 0x33 },
+    { "status mode inside a suspended erase", PROGRAM_IN_ERASE, POD_SETUP_NONE, ARRAY, 0, COMMAND_STATUS },
 };
+
+uint32_t written_address(const struct written *written)
+{
+    return written->lock ? in_lock(written->place) : in_array(written->place);
+}
 
 struct pod_device before_write(const struct written *written)
 {
@@ -175,13 +183,11 @@ struct pod_device before_write(const struct written *written)
 /* The device as that write leaves it. */
 static struct pod_device after_write(const struct written *written, struct pod_device device)
 {
-    const uint32_t address = written->address;
-    const uint32_t place = address % POD_IMAGE_BYTES;
-    if ((address & ADDRESS_IS_ARRAY) != 0) {
-        return written->setup != POD_SETUP_NONE ? after_setup(device, POD_SAMPLE_IDLE, place, written->data)
+    if (!written->lock) {
+        return written->setup != POD_SETUP_NONE ? after_setup(device, POD_SAMPLE_IDLE, written->place, written->data)
                                                 : after_command(device, written->condition, written->data);
     }
-    uint8_t *lock = &device.locks[block_of(place)];
+    uint8_t *lock = &device.locks[written->place];
     if ((*lock & POD_LOCK_DOWN) == 0) {
         *lock = written->data & 7;
     }

@@ -22,16 +22,20 @@ struct pod_device after_command(struct pod_device device, enum condition conditi
  * operation accepted. */
 struct pod_device after_setup(struct pod_device device, uint16_t sample, uint32_t place, uint32_t data);
 
-/* Each kind of write that changes something: where it starts, where it goes and what it carries. */
+/* Each kind of write that changes something: where it starts, where it goes and what it carries. place: one in the
+ * array, or the block of a lock register. */
 struct written {
     const char *name;
     enum condition condition;
     uint8_t setup;
-    uint32_t address, data;
+    bool lock;
+    uint32_t place, data;
 };
 
 enum { WRITES = 19 };
 extern const struct written writes[WRITES];
+
+uint32_t written_address(const struct written *written);
 
 /* The device before that write: blocks 2 and 7 open, an error bit set, and a mode that each of them would change. */
 struct pod_device before_write(const struct written *written);

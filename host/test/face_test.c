@@ -5,6 +5,7 @@
 #include "test/compare.h"
 #include "test/lent.h"
 #include "test/scope.h"
+#include "test/tested.h"
 
 #include <string.h>
 
@@ -86,7 +87,7 @@ static struct pod_report run(uint32_t straps, const struct lent *lent_image, con
                              const struct lent *lent_answers)
 {
     return pod_run(lent_image->bytes, lent_image->length, lent_stream->bytes, lent_stream->length, lent_answers->bytes,
-                   lent_answers->length, straps, usual.program, usual.slice, usual.pause);
+                   lent_answers->length, tested.part, straps, usual.program, usual.slice, usual.pause);
 }
 
 /* A run with some of its buffers empty: the bits of `empty` are image, stream and answers. */
@@ -132,13 +133,13 @@ static void test_null_pointers(void)
     for (enum condition condition = IS_READY; condition < CONDITIONS; condition++) {
         struct pod_device device = device_in(condition);
         for (size_t i = 0; i < sizeof samples / sizeof samples[0]; i++) {
-            device.straps = 5;
+            device.straps = (uint8_t)tested.straps;
             test_null_image(device, samples[i]);
             device.straps = POD_STRAPS_MOST + 1;
             test_null_image(device, samples[i]);
         }
         for (uint32_t block = 0; block <= POD_BLOCKS; block++) {
-            device.straps = 5;
+            device.straps = (uint8_t)tested.straps;
             set_locks(&device, block % 2 == 0 ? 0 : POD_LOCK_READ);
             test_null_view(device, block);
             device.straps = POD_STRAPS_MOST + 1;
@@ -149,8 +150,6 @@ static void test_null_pointers(void)
         test_null_run(empty, 0);
         test_null_run(empty, POD_STRAPS_MOST + 1);
     }
-    test_null_sheets();
-
     const struct pod_report wanted = { .number = POD_DONE, .samples = 0, .status = 0x80, .marks = 0 };
     const struct lent none = { .bytes = nowhere, .wanted = NULL, .length = 0 };
     expect_report(wanted, run(0, &image, &none, &none), "run with an empty stream and empty answers");
@@ -173,25 +172,65 @@ static void expect_refusal(uint32_t wanted, uint32_t found, const char *call)
     }
 }
 
+static uint32_t straps_most(void)
+{
+    return tested.part == POD_PART_LPC ? POD_LPC_STRAPS_MOST : POD_STRAPS_MOST;
+}
+
+static uint32_t run_number(uint32_t part, uint32_t straps, uint32_t pause, size_t image_length, size_t stream_length,
+                           size_t room)
+{
+    return pod_run(image.bytes, image_length, stream.bytes, stream_length, answers.bytes, room, part, straps, 10, 3906,
+                   pause)
+        .number;
+}
+
 /* A device that is not sound, since its straps are above the most. */
 static struct pod_device unsound_device(void)
 {
     struct pod_device device = device_in(IS_READY);
-    device.straps = POD_STRAPS_MOST + 1;
+    device.straps = (uint8_t)(straps_most() + 1);
     return device;
+}
+
+/* What is no part at all: refused before the times, and by run behind the image. The device is the plain one. */
+static void test_parts_refused(void)
+{
+    static const uint32_t parts[] = { POD_PART_LPC + 1, 255, 256, 257, 65536, UINT32_MAX - 1, UINT32_MAX };
+    const struct pod_device plain = pod_power_up(POD_PART_FWH, 0, usual.program, usual.slice, usual.pause).device;
+    for (size_t i = 0; i < sizeof parts / sizeof parts[0]; i++) {
+        for (uint32_t straps = 0; straps <= POD_STRAPS_MOST + 1; straps++) {
+            const struct pod_powered up = pod_power_up(parts[i], straps, 10, 3906, straps % 2);
+            expect_refusal(POD_REFUSED_STRAPS, up.number, "power up of no part");
+            expect_device(&plain, &up.device, "the device of a power up of no part");
+        }
+        const size_t all = POD_IMAGE_BYTES;
+        expect_refusal(POD_REFUSED_STRAPS, run_number(parts[i], 0, 30, all, 2, 1), "run of no part");
+        expect_refusal(POD_REFUSED_STRAPS, run_number(parts[i], 0, 0, all, 3, 0), "run of no part");
+        expect_refusal(POD_REFUSED_IMAGE, run_number(parts[i], 0, 30, all - 1, 2, 1), "run of no part");
+    }
+    const struct pod_powered up = pod_power_up(POD_PART_LPC, POD_LPC_STRAPS_MOST + 1, 1, 1, 1);
+    expect_device(&plain, &up.device, "the device of a power up of LPC that is refused");
+    struct pod_device device = plain;
+    device.part = POD_PART_LPC + 1;
+    expect_refusal(POD_REFUSED_DEVICE, pod_set_times(device, 1, 1, 1).number, "set times of no part");
+    device.part = UINT8_MAX;
+    expect_refusal(POD_REFUSED_DEVICE, pod_set_times(device, 1, 1, 1).number, "set times of no part");
 }
 
 static void test_numbers_refused(void)
 {
-    const uint32_t p = POD_PROGRAM_MOST, s = POD_SLICE_MOST, z = POD_PAUSE_MOST;
+    const uint32_t p = POD_PROGRAM_MOST, s = POD_SLICE_MOST, z = POD_PAUSE_MOST, part = tested.part;
     struct lent sheet = lent_new(POD_SHEET_BYTES);
-    expect(POD_DONE, pod_power_up(POD_STRAPS_MOST, p, s, z).number, "power up with the most of all");
-    expect(POD_DONE, pod_power_up(0, 1, 1, 1).number, "power up with the least of all");
-    expect_refusal(POD_REFUSED_STRAPS, pod_power_up(POD_STRAPS_MOST + 1, p, s, z).number, "power up");
-    expect_refusal(POD_REFUSED_TIMES, pod_power_up(0, p + 1, s, z).number, "power up");
-    expect_refusal(POD_REFUSED_TIMES, pod_power_up(0, p, s + 1, z).number, "power up");
-    expect_refusal(POD_REFUSED_TIMES, pod_power_up(0, p, s, z + 1).number, "power up");
-    expect_refusal(POD_REFUSED_TIMES, pod_power_up(0, 0, s, z).number, "power up");
+    expect(POD_DONE, pod_power_up(part, straps_most(), p, s, z).number, "power up with the most of all");
+    expect(POD_DONE, pod_power_up(part, 0, 1, 1, 1).number, "power up with the least of all");
+    expect_refusal(POD_REFUSED_STRAPS, pod_power_up(part, straps_most() + 1, p, s, z).number, "power up");
+    expect_refusal(POD_REFUSED_STRAPS, pod_power_up(part, UINT32_MAX, p, s, z).number, "power up");
+    expect_refusal(POD_REFUSED_STRAPS, pod_power_up(part, straps_most() + 1, p, s, 0).number, "power up");
+    expect_refusal(POD_REFUSED_TIMES, pod_power_up(part, 0, p + 1, s, z).number, "power up");
+    expect_refusal(POD_REFUSED_TIMES, pod_power_up(part, 0, p, s + 1, z).number, "power up");
+    expect_refusal(POD_REFUSED_TIMES, pod_power_up(part, 0, p, s, z + 1).number, "power up");
+    expect_refusal(POD_REFUSED_TIMES, pod_power_up(part, 0, 0, s, z).number, "power up");
     expect_refusal(POD_REFUSED_DEVICE, pod_set_times(unsound_device(), p, s, z).number, "set times");
     expect_refusal(POD_REFUSED_TIMES, pod_set_times(device_in(IS_READY), 0, s, z).number, "set times");
 
@@ -203,7 +242,7 @@ static void test_numbers_refused(void)
     expect_refusal(POD_REFUSED_SHEET, pod_sheet_read(sheet.bytes, POD_SHEET_BYTES - 1).number, "sheet read");
     sheet.bytes[POD_SHEET_BYTES - 2] = POD_PAUSE_MOST + 1;
     expect_refusal(POD_REFUSED_TIMES, pod_sheet_read(sheet.bytes, sheet.length).number, "sheet read");
-    sheet.bytes[3] = POD_STRAPS_MOST + 1;
+    sheet.bytes[3] = POD_STRAPS_MOST + 1; /* a sheet is FWH's, whatever part is tested */
     expect_refusal(POD_REFUSED_STRAPS, pod_sheet_read(sheet.bytes, sheet.length).number, "sheet read");
     lent_is_guarded(&sheet, "sheet");
     lent_free(&sheet);
@@ -238,34 +277,32 @@ static void test_clocks_refused(void)
     expect(1, busy.count, "clocks of a settle that is still busy");
 }
 
-static uint32_t run_number(uint32_t straps, uint32_t pause, size_t image_length, size_t stream_length, size_t room)
-{
-    return pod_run(image.bytes, image_length, stream.bytes, stream_length, answers.bytes, room, straps, 10, 3906, pause)
-        .number;
-}
-
 static void test_runs_refused(void)
 {
+    const uint32_t part = tested.part;
     const size_t all = POD_IMAGE_BYTES, longest = POD_STREAM_BYTES, room = POD_STREAM_BYTES / 2;
-    expect(POD_DONE, run_number(0, 30, all, longest, room), "the longest run");
-    expect_refusal(POD_REFUSED_IMAGE, run_number(0, 30, all - 1, longest, room), "run");
-    expect_refusal(POD_REFUSED_STRAPS, run_number(POD_STRAPS_MOST + 1, 30, all, longest, room), "run");
-    expect_refusal(POD_REFUSED_TIMES, run_number(0, 0, all, longest, room), "run");
-    expect_refusal(POD_REFUSED_STREAM, run_number(0, 30, all, longest - 1, room), "run");
-    expect_refusal(POD_REFUSED_STREAM, run_number(0, 30, all, longest + 2, room + 1), "run");
-    expect_refusal(POD_REFUSED_ROOM, run_number(0, 30, all, longest, room - 1), "run");
+    expect(POD_DONE, run_number(part, 0, 30, all, longest, room), "the longest run");
+    expect(POD_DONE, run_number(part, straps_most(), 30, all, longest, room), "the same with the most straps");
+    expect_refusal(POD_REFUSED_IMAGE, run_number(part, 0, 30, all - 1, longest, room), "run");
+    expect_refusal(POD_REFUSED_STRAPS, run_number(part, straps_most() + 1, 30, all, longest, room), "run");
+    expect_refusal(POD_REFUSED_TIMES, run_number(part, 0, 0, all, longest, room), "run");
+    expect_refusal(POD_REFUSED_STREAM, run_number(part, 0, 30, all, longest - 1, room), "run");
+    expect_refusal(POD_REFUSED_STREAM, run_number(part, 0, 30, all, longest + 2, room + 1), "run");
+    expect_refusal(POD_REFUSED_ROOM, run_number(part, 0, 30, all, longest, room - 1), "run");
     const uint16_t last = sample_at(stream.bytes, room - 1);
     sample_put(stream.bytes, room - 1, last | POD_SAMPLE_VOLTAGE);
-    expect_refusal(POD_REFUSED_VOLTAGE, run_number(0, 30, all, longest, room), "run");
+    expect_refusal(POD_REFUSED_VOLTAGE, run_number(part, 0, 30, all, longest, room), "run");
     sample_put(stream.bytes, room - 1, last);
 }
 
 /* What a fresh device holds, by name. */
 static void test_fresh_names(void)
 {
-    const struct pod_powered up = pod_power_up(0, usual.program, usual.slice, usual.pause);
+    const struct pod_powered up = pod_power_up(tested.part, 0, usual.program, usual.slice, usual.pause);
     const struct pod_controller *controller = &up.device.controller;
     expect(POD_DONE, up.number, "power up");
+    expect(tested.part, up.device.part, "part of a fresh device");
+    expect(0, up.device.straps, "straps of a fresh device");
     expect(POD_STATUS_READY, pod_status(up.device), "status of a fresh device");
     expect(POD_FRAME_NONE, up.device.frame.kind, "frame of a fresh device");
     expect(POD_MODE_ARRAY, controller->mode, "mode of a fresh device");
@@ -297,14 +334,36 @@ static void test_names_of_names(void)
     expect(POD_SLICES * POD_SLICE_BYTES, POD_BLOCK_BYTES, "the bytes of all slices");
 }
 
+/* A frame of each kind that a record names, from its first clock on. */
+static void test_frame_names(void)
+{
+    const struct frame read = known_read(), write = write_of(in_lock(1), 0);
+    const bool lpc = tested.part == POD_PART_LPC;
+    struct pod_device device = device_in(IS_READY);
+    pod_clock(&device, image.bytes, POD_IMAGE_BYTES, frame_sample(&read, 1, POD_SAMPLE_IDLE));
+    expect(lpc ? POD_FRAME_BEGUN : POD_FRAME_READ, device.frame.kind, "kind of a read on clock 1");
+    expect(1, device.frame.clock, "clock of a read on clock 1");
+    pod_clock(&device, image.bytes, POD_IMAGE_BYTES, frame_sample(&read, 2, POD_SAMPLE_IDLE));
+    expect(POD_FRAME_READ, device.frame.kind, "kind of a read on clock 2");
+    expect(2, device.frame.clock, "clock of a read on clock 2");
+    pod_clock(&device, image.bytes, POD_IMAGE_BYTES, frame_sample(&write, 1, POD_SAMPLE_IDLE));
+    expect(lpc ? POD_FRAME_BEGUN : POD_FRAME_WRITE, device.frame.kind, "kind of a write on clock 1");
+    pod_clock(&device, image.bytes, POD_IMAGE_BYTES, frame_sample(&write, 2, POD_SAMPLE_IDLE));
+    expect(POD_FRAME_WRITE, device.frame.kind, "kind of a write on clock 2");
+    expect(tested.part, device.part, "part behind the frames");
+}
+
 static void test_names(void)
 {
     check_group("names");
+    reached = 0;
     test_fresh_names();
+    test_frame_names();
     test_names_of_names();
     test_numbers_refused();
     test_clocks_refused();
     test_runs_refused();
+    test_parts_refused();
     for (uint32_t number = POD_REFUSED_DEVICE; number <= POD_STILL_BUSY; number++) {
         expect(1, reached >> number & 1, "whether refusal %u was given", number);
     }
@@ -326,8 +385,15 @@ int main(void)
     for (size_t i = 0; i < stream.length; i++) {
         lent_put(&stream, i, (uint8_t)(i % 2 == 0 ? POD_SAMPLE_IDLE & 0xFF : POD_SAMPLE_IDLE >> 8));
     }
-    test_null_pointers();
-    test_names();
+    for (uint32_t part = POD_PART_FWH; part <= POD_PART_LPC; part++) {
+        test_as(part);
+        check_about(tested_name());
+        test_null_pointers();
+        test_names();
+    }
+    check_about(NULL);
+    check_group("a null sheet");
+    test_null_sheets();
     lent_free(&image);
     lent_free(&page);
     lent_free(&stream);

@@ -7,7 +7,7 @@
     take(straps)                                                                                                       \
     take(locks[0]) take(locks[1]) take(locks[2]) take(locks[3]) take(locks[4]) take(locks[5]) take(locks[6])           \
     take(locks[7]) take(locks[8]) take(locks[9]) take(locks[10]) take(locks[11]) take(locks[12]) take(locks[13])       \
-    take(locks[14]) take(locks[15])                                                                                    \
+    take(locks[14]) take(locks[15]) take(part)                                                                         \
     take(times.program) take(times.slice) take(times.pause)                                                            \
     take(frame.kind) take(frame.clock) take(frame.byte) take(frame.address)                                            \
     take(controller.mode) take(controller.errors) take(controller.setup) take(controller.marks)                        \

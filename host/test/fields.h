@@ -8,7 +8,7 @@
 #include <stddef.h>
 #include <stdint.h>
 
-enum { FIELDS = 48 };
+enum { FIELDS = 49 };
 
 const char *field_name(size_t field);
 

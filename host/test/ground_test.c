@@ -1,5 +1,5 @@
-/* Tests what needs no clock, on good, bad and extreme input: power up, set times, soundness, status and marks, bay
- * sheets and the block view. */
+/* Tests what needs no clock, of both parts and on good, bad and extreme input: power up, set times, soundness, status
+ * and marks, bay sheets and the block view. */
 #include "bus/addresses.h"
 #include "bus/frames.h"
 #include "test/any.h"
@@ -8,12 +8,13 @@
 #include "test/fields.h"
 #include "test/lent.h"
 #include "test/scope.h"
+#include "test/tested.h"
 
 #include <string.h>
 
 /* The numbers at and around every limit, and those that a narrower type would cut down to a good one. */
 static const uint32_t numbers[] = {
-    0, 1, 2, 10, 15, 16, 29, 30, 31, 199, 200, 201, 255, 256, 257, 3906, 39061, 39062, 39063, 65535, 65536, 65537,
+    0, 1, 2, 3, 4, 10, 15, 16, 29, 30, 31, 199, 200, 201, 255, 256, 257, 3906, 39061, 39062, 39063, 65535, 65536, 65537,
     65546, 0x7FFFFFFF, 0x80000000, 0xFFFFFFFF
 };
 enum { NUMBERS = sizeof numbers / sizeof numbers[0] };
@@ -32,52 +33,73 @@ static const uint8_t example_sheet[POD_SHEET_BYTES] = {
     0x01, 0x01, 0x00, 0x00, 0x02, 0x06, 0x00, 0x0A, 0x00, 0x42, 0x0F, 0x1E, 0x00
 };
 
-/* The refusal that straps and times alone call for, or done. */
-static uint32_t refusal_of(uint32_t straps, struct asked times)
+/* The refusal that part, straps and times alone call for, or done. */
+static uint32_t refusal_of(uint32_t part, uint32_t straps, struct asked times)
 {
-    return straps > POD_STRAPS_MOST ? POD_REFUSED_STRAPS : !times_in_range(times) ? POD_REFUSED_TIMES : POD_DONE;
+    return !straps_are_allowed(part, straps) ? POD_REFUSED_STRAPS
+           : !times_in_range(times)          ? POD_REFUSED_TIMES
+                                             : POD_DONE;
 }
 
 /* ---- Power up and set times. */
 
-static void test_power_up(uint32_t straps, struct asked times)
+static void test_power_up(uint32_t part, uint32_t straps, struct asked times)
 {
-    const uint32_t number = refusal_of(straps, times);
-    const struct asked granted = number == POD_DONE ? times : sheet_times;
-    const struct pod_device wanted = fresh_device(number == POD_DONE ? straps : 0, times_kept(granted));
-    const struct pod_powered powered = pod_power_up(straps, times.program, times.slice, times.pause);
-    expect(number, powered.number, "straps %u, times %u %u %u", straps, times.program, times.slice, times.pause);
+    const uint32_t number = refusal_of(part, straps, times);
+    const struct pod_device wanted = number == POD_DONE ? fresh_device(part, straps, times_kept(times))
+                                                        : fresh_device(POD_PART_FWH, 0, times_kept(sheet_times));
+    const struct pod_powered powered = pod_power_up(part, straps, times.program, times.slice, times.pause);
+    expect(number, powered.number, "part %u, straps %u, times %u %u %u", part, straps, times.program, times.slice,
+           times.pause);
     expect_meaning(&wanted, &powered.device, "the device powered up");
     expect(1, is_sound(&powered.device), "the device powered up is sound");
 }
 
 static void test_powering_up(void)
 {
+    const uint32_t part = tested.part, straps = tested.straps;
     check_group("power up: one number at each extreme");
     for (size_t i = 0; i < NUMBERS; i++) {
         const uint32_t n = numbers[i];
-        test_power_up(n, sheet_times);
-        test_power_up(5, (struct asked){ n, 3906, 30 });
-        test_power_up(5, (struct asked){ 10, n, 30 });
-        test_power_up(5, (struct asked){ 10, 3906, n });
+        test_power_up(n, straps, sheet_times);
+        test_power_up(part, n, sheet_times);
+        test_power_up(part, straps, (struct asked){ n, 3906, 30 });
+        test_power_up(part, straps, (struct asked){ 10, n, 30 });
+        test_power_up(part, straps, (struct asked){ 10, 3906, n });
     }
-    check_group("power up: all four numbers at their extremes, the lowest refusal given");
+    check_group("power up: straps and times at their extremes, the lowest refusal given");
     for (size_t i = 0; i < NUMBERS; i++)
         for (size_t j = 0; j < NUMBERS; j++)
             for (size_t k = 0; k < NUMBERS; k += 2)
                 for (size_t l = 0; l < NUMBERS; l += 2)
-                    test_power_up(numbers[i], (struct asked){ numbers[j], numbers[k], numbers[l] });
+                    test_power_up(part, numbers[i], (struct asked){ numbers[j], numbers[k], numbers[l] });
     check_group("power up: status 80h and no marks, for each straps");
-    for (uint32_t straps = 0; straps <= POD_STRAPS_MOST; straps++) {
-        const struct pod_device device = pod_power_up(straps, POD_PROGRAM_MOST, POD_SLICE_MOST, POD_PAUSE_MOST).device;
-        expect(POD_STATUS_READY, pod_status(device), "status, straps %u", straps);
-        expect(0, pod_marks(device), "marks, straps %u", straps);
+    for (uint32_t each = 0; straps_are_allowed(part, each); each++) {
+        const struct pod_device device =
+            pod_power_up(part, each, POD_PROGRAM_MOST, POD_SLICE_MOST, POD_PAUSE_MOST).device;
+        expect(POD_STATUS_READY, pod_status(device), "status, straps %u", each);
+        expect(0, pod_marks(device), "marks, straps %u", each);
+        expect(part, device.part, "part, straps %u", each);
+        expect(each, device.straps, "straps");
     }
+}
+
+/* Every part number beside every straps, about the ends of both. */
+static void test_parts(void)
+{
+    check_group("power up: part and straps at their extremes, with times that are good or not");
+    for (size_t i = 0; i < NUMBERS; i++)
+        for (uint32_t straps = 0; straps <= 260; straps++) {
+            test_power_up(numbers[i], straps, sheet_times);
+            test_power_up(numbers[i], straps, (struct asked){ 0, 0, 0 });
+        }
+    for (uint32_t part = 0; part <= 1024; part++)
+        test_power_up(part, part % 5, sheet_times);
 }
 
 static void test_set_times(struct pod_device device, struct asked times)
 {
-    const uint32_t number = !is_sound(&device) ? POD_REFUSED_DEVICE : refusal_of(0, times);
+    const uint32_t number = !is_sound(&device) ? POD_REFUSED_DEVICE : refusal_of(POD_PART_FWH, 0, times);
     struct pod_device wanted = device;
     if (number == POD_DONE)
         wanted.times = times_kept(times);
@@ -131,7 +153,8 @@ static void test_soundness(const struct pod_device *device)
     expect(sound ? device->controller.marks : 0, pod_marks(*device), "marks");
 }
 
-/* The sound devices to start from: each condition, each stage of a frame, each setup. */
+/* The sound devices to start from: each condition, each stage of a frame, each setup. The first stage of an LPC frame
+ * is the same for both directions. */
 enum {
     READ_STAGES = FRAME_READ_CLOCKS - 1,
     WRITE_STAGES = FRAME_WRITE_CLOCKS - 1,
@@ -147,7 +170,9 @@ static struct pod_device start(size_t which)
     if (which < READ_STAGES + WRITE_STAGES) {
         device.frame.kind = which < READ_STAGES ? POD_FRAME_READ : POD_FRAME_WRITE;
         device.frame.clock = (uint8_t)(1 + which % READ_STAGES);
-        device.frame.address = ADDRESS_MOST;
+        device.frame.address = address_most(tested.part);
+        if (tested.part == POD_PART_LPC && device.frame.clock == 1)
+            device.frame.kind = POD_FRAME_BEGUN;
         return device;
     }
     which -= READ_STAGES + WRITE_STAGES;
@@ -186,6 +211,26 @@ static void test_sound_devices(void)
         struct pod_device device = start(any_below(STARTS));
         for (uint32_t changes = 2 + any_below(3); changes > 0; changes--)
             field_set(&device, any_below(FIELDS), extremes[any_below(EXTREMES)]);
+        test_soundness(&device);
+    }
+    check_group("soundness: every part beside every straps, and beside every frame");
+    for (uint32_t part = 0; part < 256; part++)
+        for (uint32_t straps = 0; straps < 256; straps++) {
+            struct pod_device device = device_in(IS_READY);
+            device.part = (uint8_t)part;
+            device.straps = (uint8_t)straps;
+            test_soundness(&device);
+        }
+    for (uint32_t i = 0; i < 3 * 8 * 32 * 8; i++) {
+        static const uint32_t addresses[] = { 0, 1, 0xFFFFFFF, 0x10000000, 0x1FFFFFFF, 0x80000000, 0xFFBF0002,
+                                              0xFFFFFFFF };
+        struct pod_device device = device_in(IS_READY);
+        device.part = (uint8_t)(i % 3);
+        device.straps = 1;
+        device.frame.kind = i / 3 & 7;
+        device.frame.clock = i / 24 & 31;
+        device.frame.byte = (uint8_t)i;
+        device.frame.address = addresses[i / 768 & 7];
         test_soundness(&device);
     }
     check_group("soundness: what stands beside what, every kind, state, setup and block");
@@ -274,7 +319,7 @@ static struct pod_sheet read_plainly(const uint8_t *sheet, size_t length)
         return nothing;
     const uint32_t straps = sheet[3], program = sheet[7] + 256u * sheet[8];
     const uint32_t slice = sheet[9] + 256u * sheet[10], pause = sheet[11] + 256u * sheet[12];
-    const uint32_t number = refusal_of(straps, (struct asked){ program, slice, pause });
+    const uint32_t number = refusal_of(POD_PART_FWH, straps, (struct asked){ program, slice, pause });
     if (number != POD_DONE)
         return (struct pod_sheet){ .number = number };
     return (struct pod_sheet){ .straps = straps, .program = program, .slice = slice, .pause = pause };
@@ -368,7 +413,7 @@ static void test_reading_sheets(void)
 static uint32_t test_sheet_write(const struct lent *buffer, uint32_t straps, struct asked times)
 {
     const size_t length = buffer->length;
-    const uint32_t refusal = refusal_of(straps, times);
+    const uint32_t refusal = refusal_of(POD_PART_FWH, straps, times);
     const uint32_t number = refusal == POD_DONE && length < POD_SHEET_BYTES ? POD_REFUSED_ROOM : refusal;
     if (number == POD_DONE) {
         const uint32_t values[] = { times.program, times.slice, times.pause };
@@ -537,15 +582,20 @@ int main(void)
     page = lent_new(POD_BLOCK_BYTES);
     lent_fill_with_any(&image);
     lent_fill(&page, 0, page.length, 0);
-    test_powering_up();
-    test_setting_times();
-    test_sound_devices();
-    test_absent_fields();
+    test_parts();
     test_random_devices();
-    test_status_and_marks();
     test_reading_sheets();
     test_writing_sheets();
-    test_views();
+    for (uint32_t part = POD_PART_FWH; part <= POD_PART_LPC; part++) {
+        test_as(part);
+        check_about(tested_name());
+        test_powering_up();
+        test_setting_times();
+        test_sound_devices();
+        test_absent_fields();
+        test_status_and_marks();
+        test_views();
+    }
     lent_free(&image);
     lent_free(&page);
     return check_end("ground_test");

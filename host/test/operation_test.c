@@ -1,5 +1,5 @@
-/* Tests operations clock by clock: permission, what each clock does to the image, suspend and resume on the last
- * clocks, the clock on which a read or a command is decided, and reset. */
+/* Tests operations clock by clock on both parts: permission, what each clock does to the image, suspend and resume on
+ * the last clocks, the clock on which a read or a command is decided, and reset. */
 #include "bus/addresses.h"
 #include "bus/frames.h"
 #include "bus/pins.h"
@@ -8,9 +8,10 @@
 #include "test/expected.h"
 #include "test/rig.h"
 #include "test/scope.h"
+#include "test/tested.h"
 
 /* Clocks of a write behind the one on which it acts. */
-enum { AFTER_ACTING = FRAME_WRITE_CLOCKS - FRAME_CLOCK_ACT, MAKER = 0x20 };
+enum { AFTER_ACTING = FRAME_WRITE_CLOCKS - FRAME_CLOCK_ACT };
 
 static const uint16_t without_voltage = POD_SAMPLE_IDLE & ~POD_SAMPLE_VOLTAGE;
 
@@ -19,7 +20,7 @@ static const uint16_t without_voltage = POD_SAMPLE_IDLE & ~POD_SAMPLE_VOLTAGE;
 /* One array write that ends a setup, its twelfth sample over `idle` and all others with the opposite pins. */
 static void test_setup(struct pod_device device, uint16_t idle, uint32_t place, uint32_t data)
 {
-    const struct frame frame = frame_write(device.straps, array_address(place), (uint8_t)data);
+    const struct frame frame = write_of(in_array(place), data);
     const bool dead = sample_voltage(idle) == POD_VOLTAGE_LOCKOUT;
     const uint16_t opposite = sample_with_voltage(sample_set(idle, POD_SAMPLE_TBL | POD_SAMPLE_WP, ~(unsigned)idle),
                                                   dead ? POD_VOLTAGE_NORMAL : POD_VOLTAGE_LOCKOUT);
@@ -71,12 +72,12 @@ static void test_setups(void)
 
     check_group("setups: a register write does not end one, a read neither");
     rig_power_up(1, 1, 1);
-    rig_write(ADDRESS_ARRAY, COMMAND_ERASE);
-    rig_write(lock_address(3), 0x00);
-    expect(0x80, rig_read(ADDRESS_ARRAY), "status read beside a setup");
-    expect(0x00, rig_read(lock_address(3)), "lock 3 read beside a setup");
+    rig_write(in_array(0), COMMAND_ERASE);
+    rig_write(in_lock(3), 0x00);
+    expect(0x80, rig_read(in_array(0)), "status read beside a setup");
+    expect(0x00, rig_read(in_lock(3)), "lock 3 read beside a setup");
     expect(POD_SETUP_ERASE, rig.now.controller.setup, "setup after a register write");
-    rig_write(array_address(0x31234), COMMAND_RESUME);
+    rig_write(in_array(0x31234), COMMAND_RESUME);
     expect(POD_OPERATION_ERASE, rig.now.controller.outer.kind, "kind of the operation accepted");
     rig_images_stand();
 }
@@ -85,37 +86,37 @@ static void test_error_bits(void)
 {
     check_group("error bits: they add up, stay when the next operation starts, and 50h clears them");
     rig_power_up(1, 1, 1);
-    rig_write(ADDRESS_ARRAY, COMMAND_ERASE);
-    rig_write(ADDRESS_ARRAY, 0x00);
+    rig_write(in_array(0), COMMAND_ERASE);
+    rig_write(in_array(0), 0x00);
     expect(0xB0, pod_status(rig.now), "status after an erase not confirmed");
-    rig_write(ADDRESS_ARRAY, COMMAND_PROGRAM);
-    rig_write(ADDRESS_ARRAY, 0x00);
+    rig_write(in_array(0), COMMAND_PROGRAM);
+    rig_write(in_array(0), 0x00);
     expect(0xB2, pod_status(rig.now), "status after a program into a locked block too");
-    rig_write(ADDRESS_ARRAY, COMMAND_PROGRAM_TOO);
-    rig_write_over(without_voltage, ADDRESS_ARRAY, 0x00);
+    rig_write(in_array(0), COMMAND_PROGRAM_TOO);
+    rig_write_over(without_voltage, in_array(0), 0x00);
     expect(0xBA, pod_status(rig.now), "status after a program with no voltage too");
-    rig_write(lock_address(0), 0x00);
+    rig_write(in_lock(0), 0x00);
     rig_put(0x00005, 1, 0xFF);
-    rig_write(ADDRESS_ARRAY, COMMAND_PROGRAM);
-    rig_write(array_address(5), 0xFF);
+    rig_write(in_array(0), COMMAND_PROGRAM);
+    rig_write(in_array(5), 0xFF);
     expect(0x3A, pod_status(rig.now), "status while a program runs");
-    rig_write(ADDRESS_ARRAY, COMMAND_CLEAR);
+    rig_write(in_array(0), COMMAND_CLEAR);
     expect(0x3A, pod_status(rig.now), "status after 50h while a program runs");
     rig_idle(in_clocks(1));
     expect(0xBA, pod_status(rig.now), "status after the program");
-    expect(0xBA, rig_read(ADDRESS_ARRAY), "status read after the program");
-    rig_write(ADDRESS_ARRAY, COMMAND_CLEAR);
+    expect(0xBA, rig_read(in_array(0)), "status read after the program");
+    rig_write(in_array(0), COMMAND_CLEAR);
     expect(0x80, pod_status(rig.now), "status after 50h");
-    expect(0x80, rig_read(array_address(0x99999)), "status read after 50h");
+    expect(0x80, rig_read(in_array(0x99999)), "status read after 50h");
 
     check_group("error bits: a program into the suspended block sets bit 4 and leaves the erase suspended");
     struct pod_device device = device_in(ERASE_RESTS);
     set_locks(&device, 0);
     rig_set(device);
-    rig_write(ADDRESS_ARRAY, COMMAND_PROGRAM);
-    rig_write(array_address(0x7FFFF), 0x00);
+    rig_write(in_array(0), COMMAND_PROGRAM);
+    rig_write(in_array(0x7FFFF), 0x00);
     expect(0xD0, pod_status(rig.now), "status");
-    rig_write(ADDRESS_ARRAY, COMMAND_CLEAR);
+    rig_write(in_array(0), COMMAND_CLEAR);
     expect(0xD0, pod_status(rig.now), "status after 50h while suspended");
     rig_images_stand();
 }
@@ -125,9 +126,9 @@ static void test_error_bits(void)
 /* Unlocks the block, sets a program or an erase up and has it accepted; its first clock drops the frame. */
 static void start(uint32_t setup, uint32_t address, uint32_t data)
 {
-    rig_write(lock_address(block_of(address)), 0x00);
-    rig_write(ADDRESS_ARRAY, setup);
-    rig_write_and_act(array_address(address), data);
+    rig_write(in_lock(block_of(address)), 0x00);
+    rig_write(in_array(0), setup);
+    rig_write_and_act(in_array(address), data);
     rig_drop_frame();
 }
 
@@ -223,8 +224,8 @@ static void test_bindings(void)
     expect(0x80, pod_status(rig.now), "status at the end of the erase");
     rig_will_hold(0x90000, POD_BLOCK_BYTES, 0xFF);
     rig_images_stand();
-    rig_write(ADDRESS_ARRAY, COMMAND_ERASE);
-    rig_write_and_act(array_address(0x90000), COMMAND_RESUME);
+    rig_write(in_array(0), COMMAND_ERASE);
+    rig_write_and_act(in_array(0x90000), COMMAND_RESUME);
     expect(in_clocks(39062), rig.now.controller.outer.left, "clocks left of an erase accepted after set times");
 
     check_group("operations: pins, voltage and locks after the acceptance, and at resume, do not matter");
@@ -234,12 +235,12 @@ static void test_bindings(void)
         rig_power_up(3, 1, 1);
         rig_put(address, 1, 0xF3);
         start(COMMAND_PROGRAM, address, 0x3F);
-        rig_write_over(dark, lock_address(block), 0x03);
-        rig_write_over(dark, ADDRESS_ARRAY, COMMAND_SUSPEND);
+        rig_write_over(dark, in_lock(block), 0x03);
+        rig_write_over(dark, in_array(0), COMMAND_SUSPEND);
         rig_clock_dark(dark, in_clocks(1) - AFTER_ACTING);
         expect(0x84, pod_status(rig.now), "status of the suspended program");
         rig_expect_byte(address, 0xF3, "while its program is suspended");
-        rig_write_over(dark, ADDRESS_ARRAY, COMMAND_RESUME);
+        rig_write_over(dark, in_array(0), COMMAND_RESUME);
         expect(0x00, pod_status(rig.now), "status of the resumed program");
         rig_clock_dark(dark, in_clocks(3));
         expect(0x80, pod_status(rig.now), "status at the end of the resumed program");
@@ -267,7 +268,7 @@ static void test_resume(const struct pod_device *device)
     const struct pod_operation *outer = &device->controller.outer;
     rig_idle(70);
     expect_meaning(device, &rig.now, "the suspended device, later");
-    rig_write_and_act(ADDRESS_ARRAY, COMMAND_RESUME);
+    rig_write_and_act(in_array(0), COMMAND_RESUME);
     rig_drop_frame();
     if (outer->left > 1) {
         rig_idle(outer->left - 2);
@@ -294,7 +295,7 @@ static void test_suspend(uint32_t left, uint32_t pause, uint32_t slices)
     rig_put(BLOCK_PLACE, 512, 0x11);
     rig_put(BLOCK_PLACE + POD_BLOCK_BYTES - 512, 512, 0x22);
     rig_set(device);
-    rig_write_and_act(ADDRESS_ARRAY, COMMAND_SUSPEND);
+    rig_write_and_act(in_array(0), COMMAND_SUSPEND);
 
     for (uint32_t clock = 0; clock <= (ends ? left : asked); clock++) {
         if (clock == 1)
@@ -346,22 +347,22 @@ static void test_program_inside(void)
     rig_power_up(2, 1, 1);
     rig_put(0xB0000, 512, 0x11);
     rig_put(0xC0001, 1, 0xFF);
-    rig_write(lock_address(12), 0x00);
+    rig_write(in_lock(12), 0x00);
     start(COMMAND_ERASE, 0xB0000, COMMAND_RESUME);
-    rig_write_and_act(ADDRESS_ARRAY, COMMAND_SUSPEND);
+    rig_write_and_act(in_array(0), COMMAND_SUSPEND);
     rig_drop_frame();
     /* 1, 12 and 33 clocks of the erase are then done: its first slice, and 13 clocks of the second */
     rig_idle(in_clocks(1) - 1);
     rig_will_hold(0xB0000, POD_SLICE_BYTES, 0xFF);
     expect(0xC0, pod_status(rig.now), "status of the suspended erase");
     rig_images_stand();
-    rig_write(ADDRESS_ARRAY, COMMAND_ARRAY);
-    expect(0xFF, rig_read(array_address(0xB0000)), "the filled slice of the suspended block");
-    expect(0x11, rig_read(array_address(0xB0100)), "the next slice of the suspended block");
+    rig_write(in_array(0), COMMAND_ARRAY);
+    expect(0xFF, rig_read(in_array(0xB0000)), "the filled slice of the suspended block");
+    expect(0x11, rig_read(in_array(0xB0100)), "the next slice of the suspended block");
     start(COMMAND_PROGRAM, 0xC0001, 0xF5);
     expect(0x40, pod_status(rig.now), "status of the program inside");
-    rig_write(ADDRESS_ARRAY, COMMAND_SUSPEND);
-    rig_write(ADDRESS_ARRAY, COMMAND_RESUME);
+    rig_write(in_array(0), COMMAND_SUSPEND);
+    rig_write(in_array(0), COMMAND_RESUME);
     expect(0x40, pod_status(rig.now), "status of the program inside after B0h and D0h");
     expect(POD_STATE_RUNNING, rig.now.controller.inner.state, "state of the program inside after B0h");
     rig_idle(in_clocks(2) - 1 - 2 * FRAME_WRITE_CLOCKS - 1);
@@ -369,7 +370,7 @@ static void test_program_inside(void)
     rig_idle(1);
     rig_expect_byte(0xC0001, 0xF5, "after the program inside");
     expect(0xC0, pod_status(rig.now), "status after the program inside");
-    rig_write_and_act(ADDRESS_ARRAY, COMMAND_RESUME);
+    rig_write_and_act(in_array(0), COMMAND_RESUME);
     expect(0x00, pod_status(rig.now), "status of the resumed erase");
     rig_drop_frame();
     rig_idle(in_clocks(1) - 13 - 2);
@@ -400,7 +401,7 @@ static void test_read_at_end(uint32_t ends, enum condition condition, uint8_t mo
     rig_set(device);
     const uint32_t before = mode == POD_MODE_STATUS ? 0x00 : 0xC7;
     const uint32_t after = mode == POD_MODE_STATUS ? 0x80 : program ? 0xC7 & 0x5A : 0xFF;
-    expect(ends <= FRAME_CLOCK_SYNC ? after : before, rig_read(array_address(place)),
+    expect(ends <= FRAME_CLOCK_SYNC ? after : before, rig_read(in_array(place)),
            "read while an operation ends on clock %u", ends);
     rig_idle(1);
     image_will_change(program ? 0 : 1);
@@ -421,7 +422,7 @@ static void test_reads_at_ends(void)
             struct pod_device device = device_in(condition);
             device.controller.outer.pause = ends;
             rig_set(device);
-            expect(ends > FRAME_CLOCK_SYNC ? 0x00 : condition == PROGRAM_PAUSES ? 0x84 : 0xC0, rig_read(ADDRESS_ARRAY),
+            expect(ends > FRAME_CLOCK_SYNC ? 0x00 : condition == PROGRAM_PAUSES ? 0x84 : 0xC0, rig_read(in_array(0)),
                    "status read while the pause ends on clock %u", ends);
         }
 }
@@ -437,7 +438,7 @@ static void test_commands_at_ends(void)
             device.controller.outer.left = ends;
             rig_put(BYTE_PLACE, 1, 0xC7);
             rig_set(device);
-            rig_write(ADDRESS_ARRAY, commands[i]);
+            rig_write(in_array(0), commands[i]);
             wanted.controller.mode = POD_MODE_STATUS;
             if (condition == IS_READY)
                 wanted = after_command(wanted, IS_READY, commands[i]);
@@ -453,7 +454,7 @@ static void test_commands_at_ends(void)
             device.controller.outer.pause = ends;
             device.controller.mode = POD_MODE_ARRAY;
             rig_set(device);
-            rig_write(ADDRESS_ARRAY, COMMAND_RESUME);
+            rig_write(in_array(0), COMMAND_RESUME);
             device.controller.mode = resumed ? POD_MODE_STATUS : POD_MODE_ARRAY;
             device.controller.outer.state = resumed ? POD_STATE_RUNNING : POD_STATE_SUSPENDED;
             device.controller.outer.left -= resumed ? ends + AFTER_ACTING : ends;
@@ -532,12 +533,11 @@ static void test_resets_of_frames(void)
     for (unsigned broken = 1; broken <= FRAME_READ_CLOCKS; broken++)
         for (size_t i = 0; i < RESETS; i++) {
             rig_set(device_in(IS_READY));
-            struct frame frame = frame_read(rig.now.straps, ADDRESS_MAKER);
-            frame.byte = MAKER;
+            const struct frame frame = known_read();
             rig_play_frame(&frame, POD_SAMPLE_IDLE, 1, broken - 1);
             test_reset_of(rig.now, resets[i]);
             rig_idle(FRAME_READ_CLOCKS);
-            expect(MAKER, rig_read(ADDRESS_MAKER), "maker read after a reset");
+            expect(frame.byte, rig_read(frame.address), "a register read after a reset");
         }
     check_group("reset: on each clock of a write; on clock 12 it stops the command");
     for (size_t which = 0; which < WRITES; which++)
@@ -546,7 +546,7 @@ static void test_resets_of_frames(void)
             const struct pod_device before = before_write(written), reached = during_write(written, before, broken - 1);
             const struct pod_device wanted = after_reset(&reached);
             rig_set(before);
-            rig_begin_write(written->address, written->data, broken - 1);
+            rig_begin_write(written_address(written), written->data, broken - 1);
             test_reset(&wanted, POD_SAMPLE_IDLE & ~POD_SAMPLE_RP);
         }
     rig_images_stand();
@@ -576,18 +576,22 @@ static void test_marks(void)
 int main(void)
 {
     rig_open();
-    test_setups();
-    test_error_bits();
-    test_programs();
-    test_erases();
-    test_bindings();
-    test_suspends();
-    test_program_inside();
-    test_reads_at_ends();
-    test_commands_at_ends();
-    test_resets_of_operations();
-    test_resets_of_frames();
-    test_marks();
+    for (uint32_t part = POD_PART_FWH; part <= POD_PART_LPC; part++) {
+        test_as(part);
+        check_about(tested_name());
+        test_setups();
+        test_error_bits();
+        test_programs();
+        test_erases();
+        test_bindings();
+        test_suspends();
+        test_program_inside();
+        test_reads_at_ends();
+        test_commands_at_ends();
+        test_resets_of_operations();
+        test_resets_of_frames();
+        test_marks();
+    }
     rig_close();
     return check_end("operation_test");
 }

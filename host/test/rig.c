@@ -3,10 +3,9 @@
 
 #include "test/check.h"
 #include "test/compare.h"
+#include "test/tested.h"
 
 #include <string.h>
-
-enum { STRAPS = 5 };
 
 struct rig rig;
 
@@ -36,7 +35,7 @@ void rig_set(struct pod_device device)
 
 void rig_power_up(uint32_t program, uint32_t slice, uint32_t pause)
 {
-    const struct pod_powered powered = pod_power_up(STRAPS, program, slice, pause);
+    const struct pod_powered powered = pod_power_up(tested.part, tested.straps, program, slice, pause);
     expect(POD_DONE, powered.number, "power up");
     rig_set(powered.device);
 }
@@ -82,7 +81,7 @@ void rig_play_frame(const struct frame *frame, uint16_t idle, unsigned first, un
 
 uint32_t rig_read_over(uint16_t idle, uint32_t address)
 {
-    struct frame frame = frame_read(rig.now.straps, address);
+    struct frame frame = frame_read(rig.now.part, rig.now.straps, address);
     rig_play_frame(&frame, idle, 1, FRAME_CLOCK_READ - 1);
     const uint32_t low = rig_clock(frame_sample(&frame, FRAME_CLOCK_READ, idle));
     const uint32_t high = rig_clock(frame_sample(&frame, FRAME_CLOCK_READ + 1, idle));
@@ -100,7 +99,7 @@ uint32_t rig_read(uint32_t address)
 
 static void write_clocks(uint16_t idle, uint32_t address, uint32_t data, unsigned clocks)
 {
-    const struct frame frame = frame_write(rig.now.straps, address, (uint8_t)data);
+    const struct frame frame = frame_write(rig.now.part, rig.now.straps, address, (uint8_t)data);
     rig_play_frame(&frame, idle, 1, clocks);
 }
 
@@ -126,7 +125,7 @@ void rig_write_and_act(uint32_t address, uint32_t data)
 
 void rig_drop_frame(void)
 {
-    rig_clock_dark(frame_break(POD_SAMPLE_IDLE, 0), 1);
+    rig_clock_dark(frame_break(POD_SAMPLE_IDLE, FRAME_TURNAROUND), 1);
 }
 
 void rig_images_stand(void)

@@ -22,7 +22,7 @@ extern struct rig rig;
 void rig_open(void);
 void rig_close(void);
 
-/* Both devices become this one, or one powered up with straps 5. */
+/* Both devices become this one, or one powered up as the part that is tested. */
 void rig_set(struct pod_device device);
 void rig_power_up(uint32_t program, uint32_t slice, uint32_t pause);
 

@@ -1,8 +1,9 @@
-/* The rules of document 01 on one device, each beside the words that it stands for. */
+/* The rules of documents 01 and 02 on one device, each beside the words that it stands for. */
 #include "test/scope.h"
 
 #include "bus/addresses.h"
 #include "bus/frames.h"
+#include "test/tested.h"
 
 #include <string.h>
 
@@ -32,14 +33,29 @@ static bool times_are_sound(struct pod_times times)
     return times_in_range((struct asked){ times.program, times.slice, times.pause });
 }
 
-/* "the frame stage is one of those below, its address within 28 bits" */
-static bool frame_is_sound(struct pod_frame frame)
+bool straps_are_allowed(uint32_t part, uint32_t straps)
 {
-    const uint32_t clocks = frame.kind == POD_FRAME_READ ? FRAME_READ_CLOCKS : FRAME_WRITE_CLOCKS;
-    if (frame.kind == POD_FRAME_NONE) {
+    return part == POD_PART_LPC ? straps <= POD_LPC_STRAPS_MOST : part == POD_PART_FWH && straps <= POD_STRAPS_MOST;
+}
+
+/* "the frame stage is one of those below, its address within 28 bits", "on LPC a frame address within 32 bits". The
+ * direction of an LPC frame is not known at clock 1, and known from clock 2 on. */
+static bool frame_is_sound(uint32_t part, struct pod_frame frame)
+{
+    const bool lpc = part == POD_PART_LPC;
+    const uint32_t first = lpc ? FRAME_CLOCK_SELECT : 1;
+    switch (frame.kind) {
+    case POD_FRAME_NONE:
         return true;
+    case POD_FRAME_READ:
+        return in_range(frame.clock, first, FRAME_READ_CLOCKS - 1) && frame.address <= address_most(part);
+    case POD_FRAME_WRITE:
+        return in_range(frame.clock, first, FRAME_WRITE_CLOCKS - 1) && frame.address <= address_most(part);
+    case POD_FRAME_BEGUN:
+        return lpc && frame.clock == 1;
+    default:
+        return false;
     }
-    return frame.kind <= POD_FRAME_WRITE && in_range(frame.clock, 1, clocks - 1) && frame.address <= ADDRESS_MOST;
 }
 
 /* "any operation's address is below 1,048,576, its own times are in range, and its clocks left and, if pausing, pause
@@ -105,9 +121,9 @@ static bool locks_are_sound(const struct pod_device *device)
 bool is_sound(const struct pod_device *device)
 {
     const struct pod_controller *controller = &device->controller;
-    return device->straps <= POD_STRAPS_MOST && locks_are_sound(device) && times_are_sound(device->times) &&
-           controller->mode <= POD_MODE_SIGNATURE && (controller->errors & ~POD_STATUS_ERRORS) == 0 &&
-           frame_is_sound(device->frame) &&
+    return straps_are_allowed(device->part, device->straps) && locks_are_sound(device) &&
+           times_are_sound(device->times) && controller->mode <= POD_MODE_SIGNATURE &&
+           (controller->errors & ~POD_STATUS_ERRORS) == 0 && frame_is_sound(device->part, device->frame) &&
            (controller->outer.kind == POD_OPERATION_NONE || operation_is_sound(controller->outer)) &&
            inner_is_sound(device) && setup_is_sound(device);
 }
@@ -133,10 +149,11 @@ void set_locks(struct pod_device *device, uint32_t value)
     }
 }
 
-struct pod_device fresh_device(uint32_t straps, struct pod_times times)
+struct pod_device fresh_device(uint32_t part, uint32_t straps, struct pod_times times)
 {
     struct pod_device device;
     memset(&device, 0, sizeof device);
+    device.part = (uint8_t)part;
     device.straps = (uint8_t)straps;
     set_locks(&device, POD_LOCK_WRITE);
     device.times = times;
@@ -167,7 +184,7 @@ struct pod_device meant_by(struct pod_device device)
     if (device.frame.kind == POD_FRAME_NONE) {
         memset(&device.frame, 0, sizeof device.frame);
     }
-    if (device.frame.clock < FRAME_CLOCK_SIZE - 1) {
+    if (device.frame.clock < frame_address_end(device.part)) {
         device.frame.address = 0;
     }
     if (device.frame.kind != POD_FRAME_READ || !in_range(device.frame.clock, FRAME_CLOCK_SYNC, FRAME_CLOCK_READ)) {
@@ -232,7 +249,8 @@ struct pod_device device_in(enum condition condition)
                                          .slices = 200,
                                          .left = in_clocks(times.slice) - 7,
                                          .times = times };
-    struct pod_device device = fresh_device(5, (struct pod_times){ .program = 10, .slice = 3906, .pause = 30 });
+    const struct pod_times own = { .program = 10, .slice = 3906, .pause = 30 };
+    struct pod_device device = fresh_device(tested.part, tested.straps, own);
     struct pod_operation *outer = &device.controller.outer;
     if (condition == IS_READY) {
         return device;

@@ -1,4 +1,4 @@
-/* Document 01 said once more in C: which devices are sound, what their status is, and what they mean. */
+/* Documents 01 and 02 said once more in C: which devices are sound, what their status is, and what they mean. */
 #ifndef TEST_SCOPE_H
 #define TEST_SCOPE_H
 
@@ -24,18 +24,21 @@ struct pod_times times_kept(struct asked times);
 bool is_sound(const struct pod_device *device);
 uint32_t status_of(const struct pod_device *device);
 
+/* "straps that its part allows": 0 to 15 on FWH, 0 to 3 on LPC, none where there is no such part. */
+bool straps_are_allowed(uint32_t part, uint32_t straps);
+
 /* Every lock register of the device gets the same value. */
 void set_locks(struct pod_device *device, uint32_t value);
 
 /* A device as step 1 leaves it, with no operation and no marks. */
-struct pod_device fresh_device(uint32_t straps, struct pod_times times);
+struct pod_device fresh_device(uint32_t part, uint32_t straps, struct pod_times times);
 
 /* The device with 0 in the fields of what is absent, so that two can be compared in what they mean: those of no frame,
  * of no operation, of no pause, the slices of a program, the data of an erase and its place inside its block; and of a
  * frame its byte where none is fixed and its address where it is not yet whole. */
 struct pod_device meant_by(struct pod_device device);
 
-/* Devices to start from, one of each kind that a sound device can be, with short times. */
+/* Devices to start from, one of each kind that a sound device can be, with short times; of the part that is tested. */
 enum condition {
     IS_READY,
     PROGRAM_RUNS,
@@ -50,5 +53,4 @@ enum condition {
 extern const char *const condition_names[CONDITIONS];
 
 struct pod_device device_in(enum condition condition);
-
 #endif

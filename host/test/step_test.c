@@ -1,5 +1,5 @@
-/* Tests one clock: frames and where they break off, registers, modes, commands, refusals, any device at all, and
- * document 01's ten examples. */
+/* Tests one clock on both parts: frames and where they break off, registers, modes, commands, refusals, any device at
+ * all, and document 01's ten examples. */
 #include "bus/addresses.h"
 #include "bus/frames.h"
 #include "bus/pins.h"
@@ -11,20 +11,18 @@
 #include "test/fields.h"
 #include "test/rig.h"
 #include "test/scope.h"
+#include "test/tested.h"
 
 #include <string.h>
 
-enum { STRAPS = 5, MAKER = 0x20, DEVICE = 0x2D };
+enum { MAKER = 0x20 };
+
+static bool is_lpc(void)
+{
+    return tested.part == POD_PART_LPC;
+}
 
 /* ---- Frames. */
-
-/* A read that is to find `byte`. */
-static struct frame read_of(uint32_t straps, uint32_t address, uint32_t byte)
-{
-    struct frame frame = frame_read(straps, address);
-    frame.byte = (uint8_t)byte;
-    return frame;
-}
 
 /* All of a frame, which the part takes or drops. */
 static void play_taken(const struct frame *frame, bool taken)
@@ -34,34 +32,41 @@ static void play_taken(const struct frame *frame, bool taken)
     rig_play(samples, 1, (unsigned)clocks, taken ? frame : NULL);
 }
 
-static uint32_t kind_begun_by(uint32_t nibble)
-{
-    return nibble == FRAME_START_READ ? POD_FRAME_READ : nibble == FRAME_START_WRITE ? POD_FRAME_WRITE : POD_FRAME_NONE;
-}
-
+/* Straps and size, which the LPC bus has not. */
 static void test_heads(void)
 {
     check_group("frames: straps match or the frame is dropped");
     for (uint32_t straps = 0; straps <= POD_STRAPS_MOST; straps++)
         for (uint32_t nibble = 0; nibble < 16; nibble++) {
-            const struct frame frame = read_of(nibble, ADDRESS_MAKER, MAKER);
-            rig_set(pod_power_up(straps, 10, 3906, 30).device);
+            struct frame frame = known_read();
+            frame.select = (uint8_t)nibble;
+            rig_set(pod_power_up(POD_PART_FWH, straps, 10, 3906, 30).device);
             play_taken(&frame, straps == nibble);
         }
 
     check_group("frames: a size other than 0000b drops the frame");
     rig_power_up(10, 3906, 30);
     for (uint32_t size = 0; size < 16; size++) {
-        struct frame read = read_of(STRAPS, ADDRESS_DEVICE, DEVICE);
-        struct frame write = frame_write(STRAPS, lock_address(4), size & 1);
+        struct frame read = read_of(ADDRESS_DEVICE, device_code());
+        struct frame write = write_of(in_lock(4), size & 1);
         read.size = write.size = (uint8_t)size;
         play_taken(&read, size == 0);
         play_taken(&write, size == 0);
         expect(0, rig.now.locks[4], "lock 4 after a write of size %u", size);
     }
+    rig_images_stand();
+}
 
-    check_group("frames: 1101b and 1110b alone begin one, at each repeat of a low frame line");
-    const struct frame read = read_of(STRAPS, ADDRESS_MAKER, MAKER), write = frame_write(STRAPS, ADDRESS_MAKER, 0xFF);
+/* What answers to the rest of a read behind a low frame line: on FWH a write begun by it takes that too. */
+static const struct frame *begun_frame(uint32_t kind, const struct frame *read, const struct frame *write)
+{
+    return kind == POD_FRAME_READ || kind == POD_FRAME_BEGUN ? read : kind == POD_FRAME_WRITE ? write : NULL;
+}
+
+static void test_starts(void)
+{
+    check_group("frames: the part's own start nibbles alone begin one, at each repeat of a low frame line");
+    const struct frame read = known_read(), write = write_of(read.address, 0xFF);
     uint16_t samples[FRAME_MOST_CLOCKS];
     frame_lay(&read, POD_SAMPLE_IDLE, samples);
     for (uint32_t nibble = 0; nibble < 16; nibble++)
@@ -73,8 +78,7 @@ static void test_heads(void)
                 expect(kind, rig.now.frame.kind, "kind of the frame that %Xh begins", nibble);
                 expect(kind == POD_FRAME_NONE ? rig.now.frame.clock : 1, rig.now.frame.clock, "its clock");
             }
-            rig_play(samples, 2, FRAME_READ_CLOCKS,
-                     kind == POD_FRAME_READ ? &read : kind == POD_FRAME_WRITE ? &write : NULL);
+            rig_play(samples, 2, FRAME_READ_CLOCKS, begun_frame(kind, &read, &write));
         }
 
     check_group("frames: none begins with the frame line high");
@@ -92,8 +96,8 @@ static void test_lines(void)
     check_group("frames: lines are not looked at on turnaround nor while the device drives");
     rig_power_up(10, 3906, 30);
     for (uint32_t nibble = 0; nibble < 16; nibble++) {
-        struct frame read = read_of(STRAPS, ADDRESS_MAKER, MAKER);
-        struct frame write = frame_write(STRAPS, lock_address(1), nibble & 1);
+        struct frame read = known_read();
+        struct frame write = write_of(in_lock(1), nibble & 1);
         read.turn = write.turn = (uint8_t)nibble;
         play_taken(&read, true);
         play_taken(&write, true);
@@ -102,27 +106,28 @@ static void test_lines(void)
 
     check_group("frames: an address whose nibbles all differ, highest first");
     rig_set(device_in(IS_READY));
-    expect(rig.image.wanted[0x12345], rig_read(0x7612345), "byte 12345");
-    expect(rig.image.wanted[0xFEDCB], rig_read(0xF4FEDCB), "byte FEDCB");
+    expect(rig.image.wanted[0x12345], rig_read(is_lpc() ? in_array(0x12345) : 0x7612345), "byte 12345");
+    expect(rig.image.wanted[0xFEDCB], rig_read(is_lpc() ? in_array(0xFEDCB) : 0xF4FEDCB), "byte FEDCB");
     rig_images_stand();
 }
 
-static const uint8_t breaks[] = { 0x0, 0x5, 0xC, FRAME_START_READ, FRAME_START_WRITE, 0xF };
+static const uint8_t breaks[] = { FRAME_START_LPC, 0x5, 0xC, FRAME_START_READ, FRAME_START_WRITE, 0xF };
 enum { BREAKS = sizeof breaks / sizeof breaks[0] };
 
 /* A low frame line with `nibble`: the device is then `wanted` beside the frame that it begins, if one. That frame runs
- * to its end; with none, nothing is driven. */
+ * to its end, on LPC in either direction; with none, nothing is driven. */
 static void test_break(struct pod_device wanted, uint32_t nibble)
 {
+    const uint32_t kind = kind_begun_by(nibble);
     rig_clock_dark(frame_break(POD_SAMPLE_IDLE, nibble), 1);
-    wanted.frame = (struct pod_frame){ .kind = (uint8_t)kind_begun_by(nibble), .clock = 1 };
+    wanted.frame = (struct pod_frame){ .kind = (uint8_t)kind, .clock = 1 };
     expect_meaning(&wanted, &rig.now, "the device after the break");
-    if (nibble == FRAME_START_READ) {
-        const struct frame frame = read_of(rig.now.straps, ADDRESS_DEVICE, DEVICE);
+    if (kind == POD_FRAME_READ || (kind == POD_FRAME_BEGUN && any_below(2) == 0)) {
+        const struct frame frame = known_read();
         rig_play_frame(&frame, POD_SAMPLE_IDLE, 2, FRAME_READ_CLOCKS);
-    } else if (nibble == FRAME_START_WRITE) {
+    } else if (kind != POD_FRAME_NONE) {
         const uint8_t lock = rig.now.locks[9] ^ POD_LOCK_READ;
-        const struct frame frame = frame_write(rig.now.straps, lock_address(9), lock);
+        const struct frame frame = write_of(in_lock(9), lock);
         rig_play_frame(&frame, POD_SAMPLE_IDLE, 2, FRAME_WRITE_CLOCKS);
         expect(wanted.locks[9] ^ 4u, rig.now.locks[9], "the lock register written behind the break");
     } else {
@@ -137,7 +142,7 @@ static void test_broken_reads(void)
         for (unsigned broken = 2; broken <= FRAME_READ_CLOCKS + 1; broken++)
             for (size_t i = 0; i < BREAKS; i++) {
                 const struct pod_device before = device_in(condition);
-                const struct frame frame = read_of(before.straps, ADDRESS_MAKER, MAKER);
+                const struct frame frame = known_read();
                 rig_set(before);
                 rig_play_frame(&frame, POD_SAMPLE_IDLE, 1, broken - 1);
                 test_break(after_clocks(before, broken), breaks[i]);
@@ -154,7 +159,7 @@ static void test_broken_writes(void)
             for (size_t i = 0; i < BREAKS; i++) {
                 const struct pod_device before = before_write(written);
                 rig_set(before);
-                rig_begin_write(written->address, written->data, broken - 1);
+                rig_begin_write(written_address(written), written->data, broken - 1);
                 test_break(after_clocks(during_write(written, before, broken - 1), 1), breaks[i]);
             }
         rig_images_stand();
@@ -166,7 +171,7 @@ static void test_broken_writes(void)
 static int lock_at(uint32_t address)
 {
     for (uint32_t block = 0; block < POD_BLOCKS; block++)
-        if (address == lock_address(block))
+        if (address == in_lock(block))
             return (int)block;
     return -1;
 }
@@ -177,16 +182,11 @@ static uint32_t register_value(const struct pod_device *device, uint32_t address
     const int lock = lock_at(address);
     if (lock >= 0)
         return device->locks[lock];
-    switch (address) {
-    case ADDRESS_INPUTS:
+    if (address == in_inputs())
         return inputs;
-    case ADDRESS_MAKER:
-        return MAKER;
-    case ADDRESS_DEVICE:
-        return DEVICE;
-    default:
+    if (is_lpc())
         return 0;
-    }
+    return address == ADDRESS_MAKER ? MAKER : address == ADDRESS_DEVICE ? device_code() : 0;
 }
 
 /* Reads a register address, writes it till it is locked down and once more, and reads it again, all beside a setup.
@@ -214,26 +214,48 @@ static void test_register(uint32_t address)
     }
 }
 
+/* Nineteen on FWH, seventeen on LPC. */
+static size_t register_addresses(uint32_t addresses[POD_BLOCKS + 3])
+{
+    size_t count = 0;
+    for (uint32_t block = 0; block < POD_BLOCKS; block++)
+        addresses[count++] = in_lock(block);
+    addresses[count++] = in_inputs();
+    if (!is_lpc()) {
+        addresses[count++] = ADDRESS_MAKER;
+        addresses[count++] = ADDRESS_DEVICE;
+    }
+    return count;
+}
+
 static void test_register_addresses(void)
 {
-    uint32_t addresses[19] = { [16] = ADDRESS_INPUTS, [17] = ADDRESS_MAKER, [18] = ADDRESS_DEVICE };
-    for (uint32_t block = 0; block < POD_BLOCKS; block++)
-        addresses[block] = lock_address(block);
+    uint32_t addresses[POD_BLOCKS + 3];
+    const size_t count = register_addresses(addresses);
+    const uint32_t bits = is_lpc() ? 20 : 28;
 
-    check_group("registers: the nineteen, read and written beside a setup");
-    for (size_t i = 0; i < 19; i++)
+    check_group("registers: each of them, read and written beside a setup");
+    for (size_t i = 0; i < count; i++)
         test_register(addresses[i]);
-    check_group("registers: their neighbours, below and above");
-    for (size_t i = 0; i < 19; i++)
-        for (uint32_t step = 1; step <= 4; step++) {
-            test_register(addresses[i] - step);
-            test_register(addresses[i] + step);
-        }
-    check_group("registers: one address bit changed, all 28 counting");
-    for (size_t i = 0; i < 19; i++)
-        for (uint32_t bit = 0; bit < 28; bit++)
+    check_group("registers: their neighbours, below and above, while they are the part's own");
+    for (size_t i = 0; i < count; i++)
+        for (uint32_t step = 0; step <= 8; step++)
+            if (!is_lpc() || addresses[i] % POD_IMAGE_BYTES + step >= 4)
+                test_register(addresses[i] + step - 4);
+    check_group("registers: one address bit changed, all counting that are not the part's own");
+    for (size_t i = 0; i < count; i++)
+        for (uint32_t bit = 0; bit < bits; bit++)
             if (1u << bit != ADDRESS_IS_ARRAY)
                 test_register(addresses[i] ^ 1u << bit);
+    check_group("registers: where FWH has its codes");
+    test_register(in_inputs() - (ADDRESS_INPUTS - ADDRESS_MAKER));
+    test_register(in_inputs() - (ADDRESS_INPUTS - ADDRESS_DEVICE));
+    rig_images_stand();
+}
+
+/* Addresses with other bits from 20 on, which on LPC are none of the part's. */
+static void test_fwh_addresses(void)
+{
     check_group("registers: a block below the first lock, and other places where nothing stands");
     static const uint32_t nothing[] = {
         0xFAF0002, 0x0000000, 0x0000002, 0xFB00000, 0xFBF0000, 0xFBFFFFF, 0x0B00002, 0xF800002, 0xFFBFFFF, 0xFBC0102
@@ -242,9 +264,9 @@ static void test_register_addresses(void)
         test_register(nothing[i] & ~(uint32_t)ADDRESS_IS_ARRAY);
     check_group("registers: a block above the last lock is array, and takes commands");
     rig_power_up(10, 3906, 30);
-    expect(rig.image.wanted[2], rig_read(lock_address(16)), "byte 2");
-    rig_write(lock_address(16), COMMAND_STATUS);
-    expect(POD_STATUS_READY, rig_read(lock_address(16)), "status");
+    expect(rig.image.wanted[2], rig_read(in_lock(16)), "byte 2");
+    rig_write(in_lock(16), COMMAND_STATUS);
+    expect(POD_STATUS_READY, rig_read(in_lock(16)), "status");
     rig_images_stand();
 }
 
@@ -252,7 +274,7 @@ static void test_register_values(void)
 {
     check_group("registers: inputs as they are on clock 15");
     for (uint32_t inputs = 0; inputs < 32; inputs++) {
-        const struct frame frame = read_of(STRAPS, ADDRESS_INPUTS, inputs);
+        const struct frame frame = read_of(in_inputs(), inputs);
         uint16_t samples[FRAME_MOST_CLOCKS];
         frame_lay(&frame, sample_with_inputs(POD_SAMPLE_IDLE, ~inputs), samples);
         samples[FRAME_CLOCK_SYNC - 1] = sample_with_inputs(POD_SAMPLE_IDLE, inputs);
@@ -265,23 +287,24 @@ static void test_register_values(void)
         for (uint32_t value = 0; value < 256; value++) {
             struct pod_device wanted = device_in(IS_READY);
             rig_set(wanted);
-            rig_write(lock_address(block), value);
+            rig_write(in_lock(block), value);
             wanted.locks[block] = value & 7;
             expect_meaning(&wanted, &rig.now, "the device with a lock written");
-            rig_write(lock_address(block), ~value & 0xFF);
+            rig_write(in_lock(block), ~value & 0xFF);
             if ((value & POD_LOCK_DOWN) == 0)
                 wanted.locks[block] = ~value & 7;
             expect_meaning(&wanted, &rig.now, "the device with a lock written twice");
-            expect(wanted.locks[block], rig_read(lock_address(block)), "lock %u read back", block);
+            expect(wanted.locks[block], rig_read(in_lock(block)), "lock %u read back", block);
         }
 
     check_group("registers: they work in each condition");
     for (enum condition condition = IS_READY; condition < CONDITIONS; condition++)
         for (uint32_t block = 0; block < POD_BLOCKS; block++) {
             struct pod_device wanted = device_in(condition);
+            const struct frame known = known_read();
             rig_set(wanted);
-            expect(MAKER, rig_read(ADDRESS_MAKER), "maker, %s", condition_names[condition]);
-            rig_write(lock_address(block), 0x04);
+            expect(known.byte, rig_read(known.address), "a register, %s", condition_names[condition]);
+            rig_write(in_lock(block), 0x04);
             wanted = after_clocks(wanted, FRAME_READ_CLOCKS + FRAME_WRITE_CLOCKS);
             wanted.locks[block] = 0x04;
             expect_meaning(&wanted, &rig.now, "the device with a lock written");
@@ -296,7 +319,7 @@ static uint32_t array_value(const struct pod_device *device, uint32_t place)
     if (device->controller.mode == POD_MODE_STATUS)
         return status_of(device);
     if (device->controller.mode == POD_MODE_SIGNATURE)
-        return place == 0 ? MAKER : place == 1 ? DEVICE : 0;
+        return place == 0 ? MAKER : place == 1 ? device_code() : 0;
     return (device->locks[block_of(place)] & POD_LOCK_READ) != 0 ? 0x00 : rig.image.wanted[place];
 }
 
@@ -314,7 +337,8 @@ static void test_modes(void)
                     device.controller.errors = lock % 2 == 0 ? 0x00 : 0x28;
                     set_locks(&device, lock);
                     rig_set(device);
-                    expect(array_value(&device, places[i]), rig_read(above[(i + lock) % 5] + places[i]),
+                    const uint32_t address = is_lpc() ? in_array(places[i]) : above[(i + lock) % 5] + places[i];
+                    expect(array_value(&device, places[i]), rig_read(address),
                            "mode %u, lock %u, read of %X", mode, lock, places[i]);
                     const struct pod_device after = after_clocks(device, FRAME_READ_CLOCKS);
                     expect_meaning(&after, &rig.now, "the device after an array read");
@@ -330,7 +354,7 @@ static void test_modes(void)
         for (uint32_t other = 0; other < POD_BLOCKS; other++) {
             const uint32_t place = other * POD_BLOCK_BYTES + 7;
             rig_put(place, 1, 0x96);
-            expect(other == block ? 0x00 : 0x96, rig_read(array_address(place)), "%u locked, %u read", block, other);
+            expect(other == block ? 0x00 : 0x96, rig_read(in_array(place)), "%u locked, %u read", block, other);
         }
     }
     rig_images_stand();
@@ -347,7 +371,7 @@ static void test_commands(void)
                     device.controller.mode = (uint8_t)mode;
                     device.controller.errors = (uint8_t)errors;
                     rig_set(device);
-                    rig_write(array_address(0x34567 * (command % 2)), command);
+                    rig_write(in_array(0x34567 * (command % 2)), command);
                     device = after_command(after_clocks(device, FRAME_CLOCK_ACT), condition, command);
                     device = after_clocks(device, FRAME_WRITE_CLOCKS - FRAME_CLOCK_ACT);
                     expect_meaning(&device, &rig.now, "the device after a command");
@@ -471,7 +495,7 @@ static void test_any_traffic(void)
     rig_power_up(1, 1, 1);
     for (int round = 0; round < 20000; round++) {
         uint16_t samples[FRAME_MOST_CLOCKS];
-        const size_t count = edge_traffic(STRAPS, samples);
+        const size_t count = edge_traffic(samples);
         for (size_t i = 0; i < count; i++)
             rig_clock(samples[i]);
         expect(1, is_sound(&rig.now), "whether the device is sound");
@@ -485,19 +509,21 @@ static void test_any_traffic(void)
 
 static void test_examples(void)
 {
-    const uint32_t top = array_address(0xF0100);
-    static const uint8_t answers[FRAME_READ_CLOCKS] = { [12] = 0x15, 0x15, 0x10, 0x10, 0x12, 0x1F, 0x00 };
-    const struct frame maker = frame_read(STRAPS, ADDRESS_MAKER);
+    const uint32_t top = in_array(0xF0100);
+    static const uint8_t fwh_answers[FRAME_READ_CLOCKS] = { [12] = 0x15, 0x15, 0x10, 0x10, 0x12, 0x1F, 0x00 };
+    static const uint8_t lpc_answers[FRAME_READ_CLOCKS] = { [12] = 0x15, 0x15, 0x10, 0x11, 0x10, 0x1F, 0x00 };
+    const uint8_t *answers = is_lpc() ? lpc_answers : fwh_answers;
+    const struct frame known = known_read();
 
-    check_group("example 1: fresh, maker register read");
+    check_group("example 1: fresh, maker register read, on LPC a lock register");
     rig_power_up(10, 3906, 30);
     for (unsigned clock = 1; clock <= FRAME_READ_CLOCKS; clock++)
-        expect(answers[clock - 1], rig_clock(frame_sample(&maker, clock, POD_SAMPLE_IDLE)), "answer %u", clock);
+        expect(answers[clock - 1], rig_clock(frame_sample(&known, clock, POD_SAMPLE_IDLE)), "answer %u", clock);
 
     check_group("example 2: fresh, program block 15");
     rig_power_up(10, 3906, 30);
     rig_put(0xF0100, 1, 0x5A);
-    rig_write(ADDRESS_ARRAY, COMMAND_PROGRAM);
+    rig_write(in_array(0), COMMAND_PROGRAM);
     rig_write(top, 0x0F);
     expect(0x82, pod_status(rig.now), "status");
     rig_idle(in_clocks(10));
@@ -505,7 +531,7 @@ static void test_examples(void)
 
     check_group("example 3: as 2 with class 0");
     rig_power_up(10, 3906, 30);
-    rig_write(ADDRESS_ARRAY, COMMAND_PROGRAM);
+    rig_write(in_array(0), COMMAND_PROGRAM);
     rig_write_over(sample_with_voltage(POD_SAMPLE_IDLE, POD_VOLTAGE_LOCKOUT), top, 0x0F);
     expect(0x88, pod_status(rig.now), "status");
     rig_idle(in_clocks(10));
@@ -517,8 +543,8 @@ static void test_examples(void)
                               : "example 4: lock 15 written 00h, program 0Fh over 5Ah, time 1");
         rig_power_up(1, 3906, 30);
         rig_put(0xF0100, 1, 0x5A);
-        rig_write(lock_address(15), 0x00);
-        rig_write(ADDRESS_ARRAY, COMMAND_PROGRAM);
+        rig_write(in_lock(15), 0x00);
+        rig_write(in_array(0), COMMAND_PROGRAM);
         rig_write_and_act(top, 0x0F);
         for (int clock = 1; clock <= 32; clock++)
             rig_clock(idle);
@@ -530,42 +556,42 @@ static void test_examples(void)
 
     check_group("example 6: erase setup, then 00h");
     rig_power_up(10, 3906, 30);
-    rig_write(ADDRESS_ARRAY, COMMAND_ERASE);
-    rig_write(ADDRESS_ARRAY, 0x00);
+    rig_write(in_array(0), COMMAND_ERASE);
+    rig_write(in_array(0), 0x00);
     expect(0xB0, pod_status(rig.now), "status");
 
     check_group("example 7: lock written 03h, then 00h; another written FFh");
     rig_power_up(10, 3906, 30);
-    rig_write(lock_address(2), 0x03);
-    rig_write(lock_address(2), 0x00);
-    rig_write(lock_address(8), 0xFF);
-    expect(0x03, rig_read(lock_address(2)), "the first");
-    expect(0x07, rig_read(lock_address(8)), "the other");
+    rig_write(in_lock(2), 0x03);
+    rig_write(in_lock(2), 0x00);
+    rig_write(in_lock(8), 0xFF);
+    expect(0x03, rig_read(in_lock(2)), "the first");
+    expect(0x07, rig_read(in_lock(8)), "the other");
 
     check_group("example 8: frame line low on clock 12 of a write");
     rig_power_up(10, 3906, 30);
-    rig_begin_write(ADDRESS_ARRAY, COMMAND_STATUS, FRAME_CLOCK_ACT - 1);
+    rig_begin_write(in_array(0), COMMAND_STATUS, FRAME_CLOCK_ACT - 1);
     rig_clock_dark(frame_break(POD_SAMPLE_IDLE, 0x7), 1);
     rig_idle(10);
     expect(POD_MODE_ARRAY, rig.now.controller.mode, "mode");
 
     check_group("example 9: erase suspended, then a program into its block");
     rig_power_up(10, 3906, 30);
-    rig_write(lock_address(4), 0x00);
-    rig_write(ADDRESS_ARRAY, COMMAND_ERASE);
-    rig_write(array_address(0x40000), COMMAND_RESUME);
-    rig_write(ADDRESS_ARRAY, COMMAND_SUSPEND);
+    rig_write(in_lock(4), 0x00);
+    rig_write(in_array(0), COMMAND_ERASE);
+    rig_write(in_array(0x40000), COMMAND_RESUME);
+    rig_write(in_array(0), COMMAND_SUSPEND);
     rig_idle(in_clocks(30));
     expect(0xC0, pod_status(rig.now), "status of the suspended erase");
-    rig_write(ADDRESS_ARRAY, COMMAND_PROGRAM);
-    rig_write(array_address(0x4FFFF), 0x00);
+    rig_write(in_array(0), COMMAND_PROGRAM);
+    rig_write(in_array(0x4FFFF), 0x00);
     expect(0xD0, pod_status(rig.now), "status after the program");
 
     check_group("example 10: reset on the sample after an acceptance");
     rig_power_up(10, 3906, 30);
-    rig_write(lock_address(4), 0x00);
-    rig_write(ADDRESS_ARRAY, COMMAND_PROGRAM);
-    rig_write_and_act(array_address(0x40000), 0x00);
+    rig_write(in_lock(4), 0x00);
+    rig_write(in_array(0), COMMAND_PROGRAM);
+    rig_write_and_act(in_array(0x40000), 0x00);
     rig_clock_dark(POD_SAMPLE_IDLE & ~POD_SAMPLE_RP, 1);
     expect(0x0010, pod_marks(rig.now), "marks");
     expect(0x80, pod_status(rig.now), "status");
@@ -575,19 +601,27 @@ static void test_examples(void)
 int main(void)
 {
     rig_open();
-    test_heads();
-    test_lines();
-    test_broken_reads();
-    test_broken_writes();
-    test_register_addresses();
-    test_register_values();
-    test_modes();
-    test_commands();
-    test_refusals();
-    test_all_bytes();
-    test_any_device();
-    test_any_traffic();
-    test_examples();
+    for (uint32_t part = POD_PART_FWH; part <= POD_PART_LPC; part++) {
+        test_as(part);
+        check_about(tested_name());
+        if (!is_lpc()) {
+            test_heads();
+            test_fwh_addresses();
+        }
+        test_starts();
+        test_lines();
+        test_broken_reads();
+        test_broken_writes();
+        test_register_addresses();
+        test_register_values();
+        test_modes();
+        test_commands();
+        test_refusals();
+        test_all_bytes();
+        test_any_device();
+        test_any_traffic();
+        test_examples();
+    }
     rig_close();
     return check_end("step_test");
 }

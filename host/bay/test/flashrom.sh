@@ -1,15 +1,15 @@
 #!/bin/sh
-# Debian's flashrom against bay serve: probe, read, erase, write and verify, and the image file compared byte for byte.
-# With the word "all" every block is written, else three of them.
+# Debian's flashrom against bay serve, of either part: probe, read, erase, write and verify, and the image file compared byte
+# for byte. With the word "all" every block is written, else three of the FWH part and two of the LPC part.
 . "$(dirname "$0")/lib.sh"
 
 case_ "Debian's flashrom is installed"
 installed bay flashrom || finish
 
-# start OPTIONS...: a server for board.img in the background; its process is in server, its port in port.
+# start OPTIONS...: a server for the part with board.img in the background; its process is in server, its port in port.
 start() {
     rm -f log
-    "$BAY_BUILD/bay" serve --port 0 "$@" board.img >log 2>err &
+    "$BAY_BUILD/bay" serve --port 0 --part "$part" "$@" board.img >log 2>err &
     server=$!
     tries=0
     until grep -q '^listening' log 2>/dev/null || [ $tries -ge 200 ]; do
@@ -42,68 +42,96 @@ updater() {
     cat complained >&2
     return "$came"
 }
-chip() { updater -c M50FW080 "$@"; }
+chip() { updater -c "$model" "$@"; }
 
 # put BLOCK FILE: that block of new.img from the file
 put() { dd if="$2" of=new.img bs=65536 skip="$1" seek="$1" count=1 conv=notrunc 2>/dev/null; }
 
 seq 100000 300000 | head -c 1048576 >old.img
 seq 500000 900000 | head -c 1048576 >other.img
-cp old.img board.img
-cp old.img new.img
-if [ "$1" = all ]; then
-    cp other.img new.img
-else
-    put 3 other.img
-    put 15 other.img
+
+# make_new WHAT BLOCKS...: new.img, with the blocks and three bytes of block 7 from another image, or all of it.
+make_new() {
+    if [ "$1" = all ]; then
+        cp other.img new.img
+        return
+    fi
+    shift
+    cp old.img new.img
+    for block in "$@"; do
+        put "$block" other.img
+    done
     printf '\060\060\060' | dd of=new.img bs=1 seek=458753 conv=notrunc 2>/dev/null
-fi
+}
 
-case_ "flashrom finds the part among all that it knows"
+# write_and_verify: flashrom's whole way with the part, from old.img to new.img.
+write_and_verify() { # BUS
+    cp old.img board.img
+
+    case_ "flashrom finds the $model among all parts that it knows"
+    start
+    gives 0 updater
+    says out "Found ST flash chip \"$model\" (1024 kB, $1) on serprog."
+    [ "$(grep -c '^Found ' out)" -eq 1 ] || wrong "it finds others besides: $(grep '^Found ' out)"
+
+    case_ "$model: it reads the image as the file has it"
+    gives 0 chip -r read.img
+    same read.img old.img
+
+    case_ "$model: it erases and writes blocks and verifies them; the file then has the same bytes"
+    began=$(date +%s)
+    gives 0 chip -w new.img
+    says out "VERIFIED."
+    took=$(($(date +%s) - began))
+    stop
+    same board.img new.img
+
+    case_ "$model: a new server has the same part to show: verified again and read back"
+    start
+    gives 0 chip -v new.img
+    says out "VERIFIED."
+    gives 0 chip -r read.img
+    same read.img new.img
+
+    case_ "$model: it erases one block by itself"
+    echo "00050000:0005ffff five" >layout
+    gives 0 chip -l layout -i five -E
+    stop
+    { head -c 327680 new.img; head -c 65536 /dev/zero | tr '\0' '\377'; tail -c 655360 new.img; } >want
+    same board.img want
+
+    case_ "$model: with write protect held low the same write fails, and the file is untouched"
+    cp old.img board.img
+    ln -f board.img witness.img
+    start --wp low
+    if chip -w new.img >out 2>&1; then
+        wrong "the write did not fail"
+    fi
+    says out "ERASE FAILED!"
+    says out "Good, writing to the flash chip apparently didn't do anything."
+    gives 0 chip -r read.img
+    same read.img old.img
+    stop
+    same board.img old.img
+    [ "$(stat -c %h witness.img)" -eq 2 ] || wrong "the file was replaced by another"
+}
+
+part=fwh model=M50FW080
+make_new "$1" 3 15
+write_and_verify FWH
+took_fwh=$took
+
+part=lpc model=M50LPW080
+make_new "$1" 15
+write_and_verify LPC
+
+case_ "neither part is taken for the other"
 start
-gives 0 updater
-says out 'Found ST flash chip "M50FW080" (1024 kB, FWH) on serprog.'
-
-case_ "it reads the image as the file has it"
-gives 0 chip -r read.img
-same read.img old.img
-
-case_ "it erases and writes blocks and verifies them; the file then has the same bytes"
-began=$(date +%s)
-gives 0 chip -w new.img
-says out "VERIFIED."
-took=$(($(date +%s) - began))
-stop
-same board.img new.img
-
-case_ "a new server has the same part to show: verified again and read back"
-start
-gives 0 chip -v new.img
-says out "VERIFIED."
-gives 0 chip -r read.img
-same read.img new.img
-
-case_ "it erases one block by itself"
-echo "00050000:0005ffff five" >layout
-gives 0 chip -l layout -i five -E
-stop
-{ head -c 327680 new.img; head -c 65536 /dev/zero | tr '\0' '\377'; tail -c 655360 new.img; } >want
-same board.img want
-
-case_ "with write protect held low the same write fails, and the file is untouched"
-cp old.img board.img
-ln board.img witness.img
-start --wp low
-if chip -w new.img >out 2>&1; then
-    wrong "the write did not fail"
+if updater -c M50FW080 -r read.img >out 2>&1; then
+    wrong "flashrom reads an M50FW080"
 fi
-says out "ERASE FAILED!"
-says out "Good, writing to the flash chip apparently didn't do anything."
-gives 0 chip -r read.img
-same read.img old.img
+says out "No EEPROM/flash device found."
 stop
-same board.img old.img
-[ "$(stat -c %h witness.img)" -eq 2 ] || wrong "the file was replaced by another"
 
-echo "flashrom's write and verify took $took seconds; it came again $again times"
+echo "flashrom's write and verify took $took_fwh seconds, of the LPC part $took; it came again $again times"
 finish

@@ -91,7 +91,7 @@ from_document | one_form >document
 
 case_ "the help has commands, options and exit statuses"
 [ "$(grep -c '^command|' help)" -ge 8 ] || wrong "$(grep -c '^command|' help) commands"
-[ "$(grep -c '^option|' help)" -ge 27 ] || wrong "$(grep -c '^option|' help) options"
+[ "$(grep -c '^option|' help)" -ge 31 ] || wrong "$(grep -c '^option|' help) options"
 [ "$(grep -c '^status|' help)" -ge 10 ] || wrong "$(grep -c '^status|' help) statuses"
 
 case_ "the manual page has the same, in the same words"
@@ -157,6 +157,17 @@ for command in run trace serve sheet; do
     grep -q "^option|$command|--straps N|.*|$straps\$" help || wrong "bay $command: usually --straps $straps"
     grep -q "^option|$command|--times .*|$program,$slice,$pause\$" help ||
         wrong "bay $command: usually --times $program,$slice,$pause"
+done
+make_image usual.img
+printf 'read FFC0000\n' | lay >fwh.stream
+printf 'part lpc\nread FFFC0000\n' | lay >lpc.stream
+for part in fwh lpc; do
+    gives 0 bay run usual.img $part.stream --part $part --answers $part.named
+    gives 0 bay run usual.img $part.stream --answers $part.unnamed
+    cmp -s $part.named $part.unnamed && usual_part=$part
+done
+for command in run trace rack serve; do
+    grep -q "^option|$command|--part fwh|lpc|.*|$usual_part\$" help || wrong "bay $command: usually --part $usual_part"
 done
 for usual in serve:clients serve:idle serve:seconds serve:rest rack:seconds; do
     command=${usual%:*}

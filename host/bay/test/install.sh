@@ -39,7 +39,7 @@ cat >ten.c <<'END_C'
 static uint8_t image[POD_IMAGE_BYTES];
 int main(void)
 {
-    struct pod_powered up = pod_power_up(3, 10, 3906, 30);
+    struct pod_powered up = pod_power_up(POD_PART_LPC, 3, 10, 3906, 30);
     struct pod_settled s = pod_settle(up.device, image, sizeof image, POD_SAMPLE_IDLE, 9);
     printf("%u %u %u %02Xh\n", up.number, s.number, s.count, pod_status(s.device));
     return up.number == POD_DONE && s.number == POD_DONE ? 0 : 1;

@@ -59,6 +59,16 @@ lays 'read FBC0001\n' ED 03 F0 03 FF 03 FB 03 FC 03 F0 03 F0 03 F0 03 F1 03 F0 0
 lays 'write FF12345 A7\n' EE 03 F0 03 FF 03 FF 03 F1 03 F2 03 F3 03 F4 03 F5 03 F0 03 \
     F7 03 FA 03 FF 03 FF 03 FF 03 FF 03 FF 03
 
+case_ "the same for the LPC part, whose start is 0, which has a cycle type for the straps and 32 bits of address, and no size"
+lays 'part lpc\nread FFBC0100\n' E0 03 F4 03 FF 03 FF 03 FB 03 FC 03 F0 03 F1 03 F0 03 F0 03 \
+    FF 03 FF 03 FF 03 FF 03 FF 03 FF 03 FF 03 FF 03 FF 03
+lays 'part lpc\nwrite 89A12345 A7\n' E0 03 F6 03 F8 03 F9 03 FA 03 F1 03 F2 03 F3 03 F4 03 F5 03 \
+    F7 03 FA 03 FF 03 FF 03 FF 03 FF 03 FF 03
+lays 'part lpc\nread 0 type 5 cut 3\n' E0 03 F5 03
+lays 'part lpc\nwrite 0 0 type F start D cut 3\n' ED 03 FF 03
+lays_same 'part lpc\nread FFF00000\n' 'straps 3\npart lpc\nread FFF00000\n'
+lays_same 'read FBC0001\n' 'part fwh\nread FBC0001\n'
+
 case_ "what a read is to find, and that it is to be silent, lays nothing else"
 lays_same 'read FBC0001\nwrite FF00000 FF\n' 'read fbc0001 = 2d\nwrite FF00000 FF silent\n'
 
@@ -129,6 +139,14 @@ refuses 'reset wp 1\n' 1 "expected rp, init or both, found wp"
 refuses 'raw\n' 1 "expected a hexadecimal number of at most FFFF, found the end of the line"
 refuses 'raw 03FF 10000\n' 1 "expected a hexadecimal number of at most FFFF, found 10000"
 refuses 'idle 1\nstraps 1\n' 2 "expected straps before the first sample, found them after it"
+refuses 'idle 1\npart lpc\n' 2 "expected a part before the first sample"
+refuses 'part\n' 1 "expected fwh or lpc, found the end of the line"
+refuses 'part spi\n' 1 "expected fwh or lpc, found spi"
+refuses 'part lpc fwh\n' 1 "expected the end of the line, found fwh"
+refuses 'part lpc\nread 100000000\n' 2 "expected a hexadecimal number of at most FFFFFFFF, found 100000000"
+refuses 'part lpc\nread 0 strap 1\n' 2 "expected an option of a frame, found strap"
+refuses 'part lpc\nread 0 size 1\n' 2 "expected an option of a frame, found size"
+refuses 'read 0 type 4\n' 1 "expected an option of a frame, found type"
 refuses 'straps 16\nread 0\n' 2 "expected \`strap\` where no nibble selects the straps, found none"
 
 case_ "a line that is too long, that has too many words, or that is no text"
@@ -166,6 +184,9 @@ says out "mute.case:2: expected something that is to be found"
 for file in bad odd mute missing; do
     says out "FAILED $file.case"
 done
+printf '# A rule of the LPC part that holds.\npart lpc\nread FFB30002 = 01\nread FFA30002 silent\n' >lpc.case
+gives 0 "$BAY_BUILD/case" lpc.case
+[ "$(tail -n 1 out)" = "case: 1 passed, 0 failed" ] || wrong "the last line: $(tail -n 1 out)"
 gives 1 "$BAY_BUILD/case"
 [ "$(tail -n 1 out)" = "case: 0 passed, 0 failed" ] || wrong "the last line: $(tail -n 1 out)"
 

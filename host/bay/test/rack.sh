@@ -24,19 +24,19 @@ case_ "twelve bays under one harness: what was begun before the pull finishes, w
 mkdir after
 gives 0 bay rack tonight --save after
 cat >want <<'END'
-bay  outcome  samples  status                                spoiled   changed
-  1  done       9,651  80h, ready                            none      0
-  2  done      10,251  80h, ready                            none      1
-  3  done      10,851  80h, ready                            none      2
-  4  done      11,451  80h, ready                            none      3
-  5  done      12,051  80h, ready                            none      4
-  6  done      12,651  80h, ready                            none      5
-  7  done      13,251  80h, ready                            none      6
-  8  done      13,851  80h, ready                            none      7
-  9  done      14,451  80h, ready                            none      8
- 10  done      15,051  80h, ready                            none      9
- 11  done      15,651  82h, ready, protected block           none      none
- 12  done      16,251  82h, ready, protected block           none      none
+bay  outcome  part  samples  status                                spoiled   changed
+  1  done     fwh     9,651  80h, ready                            none      0
+  2  done     fwh    10,251  80h, ready                            none      1
+  3  done     fwh    10,851  80h, ready                            none      2
+  4  done     fwh    11,451  80h, ready                            none      3
+  5  done     fwh    12,051  80h, ready                            none      4
+  6  done     fwh    12,651  80h, ready                            none      5
+  7  done     fwh    13,251  80h, ready                            none      6
+  8  done     fwh    13,851  80h, ready                            none      7
+  9  done     fwh    14,451  80h, ready                            none      8
+ 10  done     fwh    15,051  80h, ready                            none      9
+ 11  done     fwh    15,651  82h, ready, protected block           none      none
+ 12  done     fwh    16,251  82h, ready, protected block           none      none
 12 done, 0 not, 0 empty
 END
 same out want
@@ -68,7 +68,7 @@ gives 2 bay rack bad --save saved
 says out "  1  refusal 2"
 says out "  2  refusal 5"
 says out "  3  trouble 66"
-says out "  4  done      11,451  80h, ready                            none      3"
+says out "  4  done     fwh    11,451  80h, ready                            none      3"
 says out "  5  refusal 7"
 says out "  6  refusal 8"
 says out "  7  refusal 3"
@@ -107,7 +107,7 @@ cp quick.sheet top/bay01.sheet
 printf 'write FBF0002 00\nwrite FFF0000 20\nwrite FFF0000 D0\n' | lay >top/bay01.stream
 printf 'at 0 tbl low wp high\n' >top/harness.track
 gives 0 bay rack top
-says out "  1  done          51  82h, ready, protected block"
+says out "  1  done     fwh        51  82h, ready, protected block"
 says out "1 done, 0 not, 11 empty"
 printf 'at 0 tbl low\nat 46 tbl high\n' >top/harness.track
 gives 0 bay rack top
@@ -124,6 +124,56 @@ gives 0 bay rack top --harness /dev/null
 says out "00h, busy"
 gives 66 bay rack tonight --harness missing.track
 explains
+
+case_ "a rack of both parts: a bay with a sheet holds the FWH part, the others what --part says"
+mkdir mixed mixed.after
+for bay in 01 02 03 04; do
+    cp board.img mixed/bay$bay.img
+done
+cp tonight/bay01.stream tonight/bay01.sheet mixed
+printf 'part lpc\nwrite FFB10002 00\nwrite FFF10000 40\nwrite FFF10000 0F\nidle 400\n' | lay >mixed/bay02.stream
+cp mixed/bay02.stream mixed/bay03.stream
+cp tonight/bay01.sheet mixed/bay03.sheet
+printf 'write FB10002 00\nwrite FF10000 40\nwrite FF10000 0F\nidle 400\n' | lay >mixed/bay04.stream
+gives 0 bay rack mixed --part lpc --save mixed.after
+head -n 5 out >rows
+cat >told <<'END'
+bay  outcome  part  samples  status                                spoiled   changed
+  1  done     fwh     9,651  80h, ready                            none      0
+  2  done     lpc       451  80h, ready                            none      1
+  3  done     fwh       451  80h, ready                            none      none
+  4  done     lpc       451  80h, ready                            none      none
+END
+same rows told
+says out "4 done, 0 not, 8 empty"
+gives 0 bay run board.img mixed/bay02.stream --part lpc --save alone.img
+same alone.img mixed.after/bay02.img
+cmp -s alone.img board.img && wrong "the LPC part has programmed nothing"
+same mixed.after/bay01.img after/bay01.img
+
+case_ "without --part, and with --part fwh, all bays hold the FWH part"
+for part in "" "--part fwh"; do
+    # shellcheck disable=SC2086 # no option, or one with its value
+    gives 0 bay rack mixed $part
+    says out "  2  done     fwh       451  80h, ready                            none      none"
+    says out "  4  done     fwh       451  80h, ready                            none      1"
+    grep -q lpc out && wrong "one of them holds the LPC part"
+done
+
+case_ "the harness holds the pins of the LPC part too"
+echo "at 0 wp low" >low.track
+gives 0 bay rack mixed --part lpc --harness low.track
+says out "  2  done     lpc       451  82h, ready, protected block           none      none"
+
+case_ "a word that is no part stops the rack before it begins"
+mkdir unsaved
+for word in spi LPC ''; do
+    gives 64 bay rack mixed --part "$word" --save unsaved
+    explains
+    says err "expected  fwh for the M50FW080, lpc for the M50LPW080"
+    grep -q 'is home' err && wrong "a bay has begun"
+done
+[ -z "$(ls -A unsaved)" ] || wrong "left: $(ls -A unsaved)"
 
 case_ "a track that is none stops the rack before it begins"
 for line in "at wp low" "at 5" "at 5 wp" "at 5 wp up" "at 5 rp low" "at 5 voltage 4" "at -1 wp low" "wp low" \

@@ -173,6 +173,89 @@ explains
 gives 66 bay run board.img erase.stream --sheet missing.sheet
 explains
 
+case_ "the LPC part answers its own frames: array, inputs, status and signature, and has no maker register"
+lay >sister.stream <<'END'
+part lpc
+inputs 15
+read FFF00000
+read FFBC0100
+read FFBC0000
+read FFBC0001
+write FFF00000 70
+read FFF00000
+write FFF00000 90
+read FFF00000
+read FFF00001
+END
+gives 0 bay run board.img sister.stream --part lpc --answers got
+says out "samples  167 done"
+# bytes ANSWERS: what was read, from the answers of a stream in which each read is driven on clocks 13 to 18
+bytes() {
+    od -An -v -tx1 -w1 "$1" | tr -d ' ' | awk '$1 != "00" { run = run substr($1, 2); next }
+        { if (length(run) == 6) print substr(run, 5, 1) substr(run, 4, 1); run = "" }' | tr '\n' ' '
+}
+said=$(bytes got)
+[ "$said" = "5a 15 00 00 80 20 2f " ] || wrong "read: $said"
+head -c 19 got >first
+hex 00 00 00 00 00 00 00 00 00 00 00 00 15 15 10 1A 15 1F 00 >want
+same first want
+
+case_ "neither part answers the other's frames, and fwh is what bay takes where no part is given"
+gives 0 bay run board.img sister.stream --answers got
+[ "$(tr -d '\0' <got | wc -c)" -eq 0 ] || wrong "the FWH part drives"
+gives 0 bay run board.img maker.stream --part lpc --answers got
+[ "$(tr -d '\0' <got | wc -c)" -eq 0 ] || wrong "the LPC part drives"
+hex 00 00 00 00 00 00 00 00 00 00 00 00 15 15 10 10 12 1F 00 >want
+gives 0 bay run board.img maker.stream --part=fwh --answers got
+same got want
+
+case_ "on LPC the straps choose a megabyte of addresses, and the same erase leaves the same image"
+i=0
+for window in FFF:FFB FFE:FFA FFD:FF9 FFC:FF8; do
+    printf 'part lpc\nwrite %s30002 00\nwrite %s30000 20\nwrite %s30000 D0\nidle 9000\n' \
+        "${window#*:}" "${window%:*}" "${window%:*}" | lay >window.stream
+    for straps in 0 1 2 3; do
+        gives 0 bay run board.img window.stream --part lpc --straps $straps --times 10,1,30 --save again.img
+        if [ $straps -eq $i ]; then
+            same again.img after.img
+        else
+            same again.img kept.img
+        fi
+    done
+    i=$((i + 1))
+done
+
+case_ "the part decides which straps there are; what is no part; a sheet is one of fwh's"
+gives 3 bay run board.img sister.stream --part lpc --straps 4 --save save.img
+explains
+says err "expected  straps 0 to 3, as the part lpc has them"
+says err "found     4"
+gives 3 bay run board.img sister.stream --part lpc --straps 15
+gives 3 bay run board.img sister.stream --part fwh --straps 16
+says err "expected  straps 0 to 15, as the part fwh has them"
+gives 0 bay run board.img sister.stream --part fwh --straps 4
+gives 2 bay run short.img odd.stream --part lpc --straps 4
+gives 3 bay run board.img odd.stream --part lpc --straps 4 --times 0,0,0
+gives 4 bay run board.img odd.stream --part lpc --straps 3 --times 0,0,0
+gives 5 bay run board.img odd.stream --part lpc --straps 3
+gives 7 bay run board.img class3.stream --part lpc --straps 3
+gives 64 bay run board.img sister.stream --part lpc --straps three
+explains
+says err "expected  a whole number, 0 to 3"
+for word in spi LPC lpcx 1 ''; do
+    gives 64 bay run board.img sister.stream --part "$word" --save save.img
+    explains
+    says err "expected  fwh for the M50FW080, lpc for the M50LPW080"
+done
+gives 64 bay run board.img sister.stream --part lpc --part lpc
+explains
+gives 64 bay run board.img sister.stream --part lpc --sheet quick.sheet --save save.img
+explains
+says err "--sheet does not go with --part lpc"
+gives 0 bay run board.img erase.stream --part fwh --sheet quick.sheet --save again.img
+same again.img after.img
+[ "$(cat save.img)" = old ] || wrong "save.img was written over"
+
 case_ "a full disk: the old file stays, nothing is left over, and no second output is kept"
 echo old >answers
 gives 74 full 200 run board.img maker.stream --answers answers --save save.img

@@ -101,6 +101,37 @@ stop 0
 same board.img written.img
 cp kept.img board.img
 
+case_ "who the LPC part is: its name and its bus, and no other one"
+start board.img --part lpc
+answers 06626179204D35304C5057303830000000 s:03 r:17
+answers 0602 s:05 r:2
+answers "06 06 15 15" s:1202 r:1 s:120F r:1 s:1204 r:1 s:120D r:1
+
+case_ "its bytes and registers: no maker, no device code, and the addresses of other straps are nobody's"
+answers 065A s:090000F3 r:2
+answers 065A5A5A5A s:0A0000F3040000 r:5
+answers "0600 0600 0601 0600" s:090000BC r:2 s:090100BC r:2 s:090200B3 r:2 s:090001BC r:2
+answers "06FF 06FF 06FF" s:090000E3 r:2 s:090200A3 r:2 s:09000073 r:2
+# 90h shows the signature, FFh the array again
+answers "06 06 0620 062F 06 06 065A" s:0C0000F090 r:1 s:0F r:1 s:090000F0 r:2 s:090100F0 r:2 s:0C0000F0FF r:1 s:0F r:1 \
+    s:090000F0 r:2
+# several bytes across the end of the address space: behind it is nobody
+answers 065A5AFFFF s:0AFEFFFF040000 r:5
+# lock of block 3 to 00, program 40, 0F over 5A gives 0A, delay 20 microseconds, read array FF
+answers "06 06 06 06 06 06 0680 06 06 060A" s:0B r:1 s:0C0200B300 r:1 s:0C0000F340 r:1 s:0C0000F30F r:1 s:0E14000000 r:1 \
+    s:0F r:1 s:090000F3 r:2 s:0C0000F3FF r:1 s:0F r:1 s:090000F3 r:2
+stop 0
+same board.img written.img
+cp kept.img board.img
+
+case_ "with straps 1 and 3 it stands one and three megabytes lower"
+start board.img --part lpc --straps 1
+answers "06FF 065A 0601 06FF" s:090000F3 r:2 s:090000E3 r:2 s:090200A3 r:2 s:090200B3 r:2
+stop 0
+start board.img --part lpc --straps 3
+answers "06FF 065A 0601 06FF" s:090000F3 r:2 s:090000C3 r:2 s:09020083 r:2 s:090200B3 r:2
+stop 0
+
 case_ "several bytes written at once go to rising addresses; the buffer is bounded; begin drops what was laid by"
 start board.img --rest 0 --times 1,1,1
 # O_WRITEN of 3 bytes at the lock of block 3: 00, then two that fall on no register
@@ -426,6 +457,10 @@ turned_away 64 --port 0 board.img --voltage 4
 turned_away 64 --port 0 board.img --wp down
 turned_away 64 --port 0 -
 turned_away 3 --port 0 board.img --straps 16
+turned_away 3 --port 0 board.img --part lpc --straps 4
+turned_away 64 --port 0 board.img --part spi
+hex 01 01 00 00 02 06 00 0A 00 01 00 1E 00 >quick.sheet
+turned_away 64 --port 0 board.img --part lpc --sheet quick.sheet
 turned_away 4 --port 0 board.img --times 0,0,0
 turned_away 64 --port 0 board.img --clients 0
 turned_away 64 --port 0 board.img --idle 0

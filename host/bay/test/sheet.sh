@@ -110,5 +110,11 @@ gives 64 bay sheet read usual.sheet --straps 1
 explains
 gives 64 bay sheet write kept --words words --straps 1
 explains
+# a sheet says no part
+gives 64 bay sheet write lpc.sheet --part lpc
+explains
+gives 64 bay sheet read usual.sheet --part lpc
+explains
+absent lpc.sheet
 
 finish

@@ -32,6 +32,28 @@ idle 1
 read FBC0000
 END
 
+# as_sigrok_sees STREAM OPTIONS...: the waveform of a run, sampled where clk rises, against the stream and the answers. A line
+# of `seen` has the sample's lower byte, the higher one as far as the inputs, and the answer.
+as_sigrok_sees() {
+    stream=$1
+    shift
+    gives 0 bay trace board.img "$stream" "$@" --vcd small.vcd
+    gives 0 bay run board.img "$stream" "$@" --answers small.answers
+    gives 0 sigrok-cli -I vcd -i small.vcd -O csv
+    [ -s err ] && wrong "sigrok complains: $(cat err)"
+    # columns: 1 clk, 2 frame, 3-6 host, 7-10 device, 11 drives, 12 RP, 13 INIT, 14 TBL, 15 WP, 16-17 voltage
+    awk -F, '/^[01],/ {
+        if ($1 == 1 && last == 0) {
+            print $3 + 2 * $4 + 4 * $5 + 8 * $6 + 16 * $2 + 32 * $12 + 64 * $13 + 128 * $14, $15 + 2 * $16 + 4 * $17,
+                $7 + 2 * $8 + 4 * $9 + 8 * $10 + 16 * $11
+        }
+        last = $1
+    }' out >seen
+    od -An -v -tu1 -w2 "$stream" | awk '{ print $1, $2 % 8 }' >samples
+    od -An -v -tu1 -w1 small.answers | awk '{ print $1 }' | paste -d' ' samples - >right
+    same seen right
+}
+
 case_ "every frame in words, and the pins as they change"
 gives 0 bay trace board.img night.stream --times 10,1,30
 cat >want <<'END'
@@ -88,6 +110,113 @@ says out "clock     98  pins   INIT high"
 says out "clock     99  read   -                             -    cut off by the end of the stream"
 says out "spoiled blocks: 3"
 
+case_ "the LPC part: its cycle types and addresses, its registers by their names, and frames that are not its own"
+lay >sister.stream <<'END'
+part lpc
+write FFB30002 00
+write FFF30000 20
+write FFF30000 D0
+idle 100
+pin wp low
+idle 8400
+read FFF30000 type 5        # the lowest bit of a cycle type is free
+write FFF50000 20 type 7
+write FFF50000 D0 break 14  # a write that has acted by then
+write FFF00000 FF break 12  # and one that has not
+write FFE00000 FF           # the other three
+read FFD30000
+read FF8C0100
+read 7FF30000               # bits 23 to 31
+read FF7F0000
+read FFF30000 type 0        # a cycle of another kind, which is over there
+write FFF00000 FF type 8
+read FFF30000 break 2       # no cycle type yet
+raw 02ED                    # a start of the FWH part begins nothing
+write FFF00000 FF
+read FFF2FFFF
+read FFCC0000
+read FFBC0000
+read FFBC0001
+inputs 15
+read FFBC0100
+read FFB30002
+read FFB30003
+read FFBF0002
+END
+gives 0 bay trace board.img sister.stream --part lpc --times 10,1,30
+cat >told <<'END'
+clock      0  pins   RP high, INIT high, TBL high, WP high, voltage normal, inputs 00h
+clock      0  write  lock of block 3 (FFB30002h)   00h  answered; status stays 80h, ready
+clock     17  write  array 30000h (block 3)        20h  answered; status stays 80h, ready
+clock     34  write  array 30000h (block 3)        D0h  answered; status 80h to 00h, busy
+clock    151  pins   WP low
+clock   8493  status 00h to 80h, ready
+clock   8551  read   array 30000h (block 3)        80h  answered
+clock   8570  write  array 50000h (block 5)        20h  answered; status stays 80h, ready
+clock   8587  write  array 50000h (block 5)        D0h  aborted on clock 14; status 80h to 82h, ready, protected block
+clock   8601  write  array 00000h (block 0)        -    aborted on clock 12
+clock   8613  write  address FFE00000h             FFh  not answered (an address of straps 1); status stays 82h, ready, protected block
+clock   8630  read   address FFD30000h             -    not answered (an address of straps 2)
+clock   8649  read   address FF8C0100h             -    not answered (an address of straps 3)
+clock   8668  read   address 7FF30000h             -    not answered (bits 23 to 31 are not all 1)
+clock   8687  read   address FF7F0000h             -    not answered (bits 23 to 31 are not all 1)
+clock   8706  begun  -                             -    dropped (cycle type 0h)
+clock   8725  begun  -                             -    dropped (cycle type 8h)
+clock   8742  begun  -                             -    aborted on clock 2
+clock   8744  start  Dh begins no frame
+clock   8745  write  array 00000h (block 0)        FFh  answered; status stays 82h, ready, protected block
+clock   8762  read   array 2FFFFh (block 2)        5Ah  answered
+clock   8781  read   address FFCC0000h             -    not answered (an address of straps 3)
+clock   8800  read   register FFBC0000h            00h  answered
+clock   8819  read   register FFBC0001h            00h  answered
+clock   8838  pins   inputs 15h
+clock   8838  read   inputs (FFBC0100h)            15h  answered
+clock   8857  read   lock of block 3 (FFB30002h)   00h  answered
+clock   8876  read   register FFB30003h            00h  answered
+clock   8895  read   lock of block 15 (FFBF0002h)  01h  answered
+end of the stream after 8,914 clocks; status 82h, ready, protected block; spoiled blocks: none
+END
+same out told
+same board.img kept.img
+
+case_ "with other straps the same addresses are another part's, and theirs its own"
+printf 'part lpc\nread FFF30000\nread FFB30002\nread FFC30000\nread FF830002\nread FF8C0100\n' | lay >straps.stream
+gives 0 bay trace board.img straps.stream --part lpc --straps 3
+cat >told <<'END'
+clock      0  pins   RP high, INIT high, TBL high, WP high, voltage normal, inputs 00h
+clock      0  read   address FFF30000h             -    not answered (an address of straps 0)
+clock     19  read   address FFB30002h             -    not answered (an address of straps 0)
+clock     38  read   array 30000h (block 3)        5Ah  answered
+clock     57  read   lock of block 3 (FF830002h)   01h  answered
+clock     76  read   inputs (FF8C0100h)            00h  answered
+end of the stream after 95 clocks; status 80h, ready; spoiled blocks: none
+END
+same out told
+
+case_ "an LPC frame broken off on each of its clocks says on which; on clock 2 it has only begun"
+for clock in 2 3 4 5 6 7 8 9 10 11 12 13 14 15 16 17 18 19; do
+    for kind in read write; do
+        byte=
+        [ $kind = write ] && byte=FF
+        [ $kind$clock = write18 ] || [ $kind$clock = write19 ] && continue
+        printf 'part lpc\n%s FFF30000 %s break %d\n' $kind "$byte" $clock | lay >cut.stream
+        gives 0 bay trace board.img cut.stream --part lpc
+        says out "aborted on clock $clock"
+        case $clock in
+        2) says out "clock      0  begun  -                             -    aborted" ;;
+        [3-9] | 10) says out "clock      0  $(printf %-5s $kind)  -                             -    aborted" ;;
+        *) says out "clock      0  $(printf %-5s $kind)  array 30000h (block 3)" ;;
+        esac
+    done
+done
+
+case_ "a stream of one part traced as the other's: the starts begin no frame"
+gives 0 bay trace board.img night.stream --part lpc
+[ "$(grep -c 'begins no frame$' out)" -eq 20 ] || wrong "$(grep -c 'begins no frame$' out) starts that begin no frame"
+grep -qE ' (read|write|begun) ' out && wrong "and yet there are frames"
+gives 0 bay trace board.img sister.stream
+says out "start  0h begins no frame"
+
 case_ "the waveform: sigrok reads it without a complaint, wire by wire as the samples and answers are"
 gives 0 bay trace board.img night.stream --times 10,1,30 --vcd night.vcd
 same out want
@@ -99,24 +228,38 @@ if installed bay sigrok-cli; then
         says out "- $wire: logic"
     done
     says out "Channels: 24"
-    # the last three frames, sampled where clk rises, against the stream and the answers
+    # three frames
     printf 'read FBC0000\nwrite FB30002 00\ninputs 15\nvoltage 2\npin wp low\nread FBC0100\n' | lay >small.stream
-    gives 0 bay trace board.img small.stream --vcd small.vcd
-    gives 0 bay run board.img small.stream --answers small.answers
-    gives 0 sigrok-cli -I vcd -i small.vcd -O csv
-    [ -s err ] && wrong "sigrok complains: $(cat err)"
-    # columns: 1 clk, 2 frame, 3-6 host, 7-10 device, 11 drives, 12 RP, 13 INIT, 14 TBL, 15 WP, 16-17 voltage
-    awk -F, '/^[01],/ {
-        if ($1 == 1 && last == 0) {
-            print $3 + 2 * $4 + 4 * $5 + 8 * $6 + 16 * $2 + 32 * $12 + 64 * $13 + 128 * $14, $15 + 2 * $16 + 4 * $17,
-                $7 + 2 * $8 + 4 * $9 + 8 * $10 + 16 * $11
-        }
-        last = $1
-    }' out >seen
-    od -An -v -tu1 -w2 small.stream | awk '{ print $1, $2 % 8 }' >samples
-    od -An -v -tu1 -w1 small.answers | awk '{ print $1 }' | paste -d' ' samples - >want
-    [ "$(wc -l <want)" -eq 55 ] || wrong "the stream is not the one that was meant"
-    same seen want
+    as_sigrok_sees small.stream
+    [ "$(wc -l <seen)" -eq 55 ] || wrong "the stream is not the one that was meant"
+fi
+
+case_ "the same of the LPC part: frame line, nibbles and drives, clock by clock"
+if installed bay sigrok-cli; then
+    # an array read, a lock, the inputs; another part's address, another cycle type, and frames that are broken off
+    lay >small.stream <<'END'
+part lpc
+read FFF30000
+write FFB30002 00
+inputs 15
+voltage 2
+pin wp low
+read FFBC0100
+read FFE30000
+read FFF30000 type 2
+pin wp high
+voltage 1
+write FFF30000 70
+read FFF30000 break 17
+write FFB30002 01 break 2
+read FFF30000
+END
+    as_sigrok_sees small.stream --part lpc
+    [ "$(wc -l <seen)" -eq 148 ] || wrong "the stream is not the one that was meant"
+    # a frame of it in numbers: the sample's lower byte is E0h with the lines on clock 1, then F0h with them
+    head -n 19 seen | awk '{ printf "%02X:%02X ", $1, $3 }' >first
+    echo "E0:00 F4:00 FF:00 FF:00 FF:00 F3:00 F0:00 F0:00 F0:00 F0:00 FF:00 FF:00 FF:15 FF:15 FF:10 FF:1A FF:15 FF:1F FF:00 " |
+        tr -d '\n' | cmp -s - first || wrong "the first frame is $(cat first)"
 fi
 
 case_ "the waveform on the standard output, the words on the standard error"
@@ -135,6 +278,13 @@ explains
 gives 7 bay trace board.img class3.stream --vcd new.vcd
 explains
 gives 3 bay trace board.img night.stream --straps 16 --vcd new.vcd
+gives 3 bay trace board.img night.stream --part lpc --straps 4 --vcd new.vcd
+explains
+hex 01 01 00 00 02 06 00 0A 00 01 00 1E 00 >quick.sheet
+gives 64 bay trace board.img night.stream --part lpc --sheet quick.sheet --vcd new.vcd
+explains
+gives 64 bay trace board.img night.stream --part spi --vcd new.vcd
+explains
 gives 4 bay trace board.img night.stream --times 0,1,1 --vcd new.vcd
 gives 66 bay trace missing.img night.stream --vcd new.vcd
 explains
