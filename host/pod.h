@@ -166,8 +166,8 @@ struct pod_controller {
     struct pod_operation inner;
 };
 
-/* The whole part but its memory, and which of the two it was powered up as. It holds numbers only: any 96 bytes at all may be handed in, and every call that takes
- * a device tests whether it is sound. */
+/* The whole part but its memory, and which of the two it was powered up as. It holds numbers only: any 96 bytes at all
+ * may be handed in, and every call that takes a device tests whether it is sound. */
 struct pod_device {
     uint8_t straps;
     uint8_t locks[16];
@@ -218,8 +218,9 @@ struct pod_report  pod_run(uint8_t *image, size_t image_len, const uint8_t *stre
                            uint8_t *answers, size_t answers_len,
                            uint32_t part, uint32_t straps, uint32_t program, uint32_t slice, uint32_t pause);
 
-/* A bay sheet's straps and times (microseconds); a sheet says no part, and is one of FWH's. Its bytes are 01 01 00 and the straps, then 02 06 00 and program,
- * slice and pause, two bytes each with the lower one first. Changes nothing. Refusals 8, 3, 4, tested in this order. */
+/* A bay sheet's straps and times (microseconds); a sheet says no part, and is FWH's. Its bytes are 01 01 00 and the
+ * straps, then 02 06 00 and program, slice and pause, two bytes each with the lower one first. Changes nothing. Refusals
+ * 8, 3, 4, tested in this order. */
 struct pod_sheet   pod_sheet_read(const uint8_t *sheet, size_t sheet_len);
 
 /* Writes a bay sheet into the first POD_SHEET_BYTES of a buffer and leaves the rest. Gives the number alone: refusals
