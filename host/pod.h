@@ -188,8 +188,8 @@ struct pod_part    { uint32_t from, start, length; };
 /* Where the bytes of a pod_part are to be found; POD_FROM_FRONT shows none, its start and length are 0. */
 enum { POD_FROM_FRONT = 0, POD_FROM_IMAGE = 1, POD_FROM_PAGE = 2 };
 
-/* A device fresh from power-up: which part, straps as a number, times in microseconds. Refusals 3, 4; the device is then
- * the FWH one with straps 0 and times 10, 3906 and 30. */
+/* A device fresh from power-up: which part, straps as a number, times in microseconds. Refusals 3, 4; the device is
+ * then the FWH one with straps 0 and times 10, 3906 and 30. */
 struct pod_powered pod_power_up(uint32_t part, uint32_t straps, uint32_t program, uint32_t slice, uint32_t pause);
 
 /* The device with other times (microseconds), which hold for operations accepted from now on; those in progress keep
@@ -219,8 +219,8 @@ struct pod_report  pod_run(uint8_t *image, size_t image_len, const uint8_t *stre
                            uint32_t part, uint32_t straps, uint32_t program, uint32_t slice, uint32_t pause);
 
 /* A bay sheet's straps and times (microseconds); a sheet says no part, and is FWH's. Its bytes are 01 01 00 and the
- * straps, then 02 06 00 and program, slice and pause, two bytes each with the lower one first. Changes nothing. Refusals
- * 8, 3, 4, tested in this order. */
+ * straps, then 02 06 00 and program, slice and pause, two bytes each with the lower one first. Changes nothing.
+ * Refusals 8, 3, 4, tested in this order. */
 struct pod_sheet   pod_sheet_read(const uint8_t *sheet, size_t sheet_len);
 
 /* Writes a bay sheet into the first POD_SHEET_BYTES of a buffer and leaves the rest. Gives the number alone: refusals

@@ -1,4 +1,5 @@
--- Document 01, "Address bit 22 set means array" and "Array reads by mode": the value that a read finds. Assumes nothing.
+-- Document 01, "Address bit 22 set means array" and "Array reads by mode", and document 02, #101 (000, Tables 9 and 12): the
+-- value that a read finds. Assumes nothing.
 use Prim.Native.Nat.{ℕ, _/_, _%_}
 use mathlib.Core.Bool.{Bool, cond}
 use mathlib.Core.List.{List}
@@ -26,8 +27,8 @@ arrayAddress address = address % 1048576
 unfoldable pub lockOf : List ℕ → ℕ → ℕ
 lockOf locks address = getD locks (blockOf address) 0
 
--- a register is known by all bits of its address (house): a lock as it stands, the inputs with FGPI0 in bit 0, maker 20h,
--- device 2Dh, which FWH alone has; others read 00h
+-- a register is known by all bits of its address (house): a lock as it stands, the inputs with FGPI0 in bit 0; on FWH
+-- alone maker 20h and device 2Dh; others read 00h
 abbrev pub standing : List ℕ → ℕ → Register → ℕ
 standing locks sample (Lock b) = getD locks b 0
 standing locks sample Inputs = inputs sample

@@ -1,4 +1,4 @@
--- Document 01, "Frames" (Tables 4 and 5 of 004), and document 02, #101 (Tables 7, 8 and 9 of 000): what each clock of a frame
+-- Document 01, "Frames" (Tables 4 and 5 of 004), and document 02, #101 (Tables 3, 7 and 8 of 000): what each clock of a frame
 -- takes, asks and drives. A frame's clock is the last one done. The two parts have each a head, clocks 1 to 10; from clock 11
 -- on a frame is the same on both. Assumes nothing.
 use Prim.Native.Nat.{ℕ, _+_, _*_, _/_, _%_}
@@ -11,8 +11,8 @@ use Rattle.part.specs.Parts.{windowOf}
 use Rattle.bus.specs.declared.Asked.{Asked}
 use Rattle.bus.specs.declared.Asked.the-variants.{Nothing, Read, Write}
 
--- a low frame line ends the frame in progress; 1101b begins a read, 1110b a write, on LPC 0000b begins a frame whose direction
--- is not known yet; otherwise the bus is idle
+-- a low frame line ends the frame in progress. On FWH 1101b begins a read and 1110b a write; on LPC 0000b begins a frame whose
+-- direction is not known yet; otherwise the bus is idle
 unfoldable pub begun : ℕ → ℕ → Frame
 begun part nibble =
     cond (isLpc part) (cond (eqb nibble 0) (frame 3 1 0 0) idle)
@@ -22,7 +22,7 @@ begun part nibble =
 unfoldable pub shifted : ℕ → ℕ → ℕ → ℕ
 shifted part address nibble = address % cond (isLpc part) 0x10000000 0x1000000 * 16 + nibble
 
--- clock 2 strap match, 3-9 address, 10 size; a mismatch or a size other than 0000b drops the frame (house)
+-- FWH's head: clock 2 strap match, 3-9 address, 10 size; a mismatch or a size other than 0000b drops the frame (house)
 unfoldable pub headed : ℕ → Frame → ℕ → Frame
 headed straps f nibble =
     cond (eqb (f .clock) 1) (cond (eqb nibble straps) (frame (f .kind) 2 0 0) idle)

@@ -104,7 +104,7 @@ abbrev pub isBusyFor : ℕ → ℕ → World → Bool
 isBusyFor sample zero w = eqb (bit7 w) 0
 isBusyFor sample (suc n) w = cond (eqb (bit7 w) 0) (isBusyFor sample n (after (clock sample) w)) false
 
--- a refusal, and the condition under which document 01 has it given
+-- a refusal, and the condition under which documents 01 and 02 have it given
 pub record Refusal : Type 0 where
   pub number : ℕ
   pub given : Bool
@@ -118,7 +118,7 @@ unsound d = when 1 (not (soundOf d))
 abbrev misfit : List ℕ → Refusal
 misfit image = when 2 (not (eqb (length image) 1048576))
 
--- FWH is part 0 and has straps 0 to 15, LPC is part 1 and has 0 to 3
+-- FWH is part 0 and has straps 0 to 15, LPC is part 1 and has 0 to 3; there is no other part
 abbrev strapped : ℕ → ℕ → Refusal
 strapped part straps = when 3 (ltb 1 part || ltb (cond (eqb part 1) 3 15) straps)
 

@@ -36,7 +36,7 @@ noneResets (s ∷ ss) = cond (isReset s) false (noneResets ss)
 abbrev pub nibble : ℕ → List ℕ → ℕ
 nibble n frame = lines (getD frame (n - 1) 0)
 
--- the address, on clocks 3 to 9, on LPC 3 to 10, highest nibble first; the data of a write, on 11 and 12, low nibble first
+-- the seven nibbles on clocks 3 to 9, highest first
 abbrev pub sevenIn : List ℕ → ℕ
 sevenIn frame =
     nibble 3 frame * 0x1000000
@@ -47,9 +47,11 @@ sevenIn frame =
     + nibble 8 frame * 0x10
     + nibble 9 frame
 
+-- the address: these, and on LPC the nibble on clock 10 behind them
 abbrev pub addressIn : ℕ → List ℕ → ℕ
 addressIn part frame = cond (isLpc part) (sevenIn frame * 0x10 + nibble 10 frame) (sevenIn frame)
 
+-- the data of a write, on clocks 11 and 12, low nibble first
 abbrev pub dataIn : List ℕ → ℕ
 dataIn frame = nibble 11 frame + 16 * nibble 12 frame
 
@@ -175,9 +177,9 @@ BrokenOffGivesNothing =
     × (through (first ∷ (others ++ (last ∷ []))) (world d image) .device .frame
     ≡ cond (isReset last) idle (begun (d .part) (lines last)))
 
--- a frame that is no write for this part (a read, another first nibble, other straps, another size; on LPC another cycle type or
--- another part's address), or has not come to its
--- clock 12, or was cut off by a reset on clock 12 or before, gives no command either
+-- a frame that is no write for this part (a read, another first nibble; on FWH other straps or another size; on LPC another
+-- cycle type or an address that is not for it), or has not come to its clock 12, or was cut off by a reset on clock 12 or
+-- before, gives no command either
 unfoldable pub OtherFramesGiveNothing : Type 0
 OtherFramesGiveNothing =
     (d : Device) (image : List ℕ) (first : ℕ) (others : List ℕ)
@@ -230,7 +232,7 @@ StatusBits =
     × (status % 2 ≡ 0)
     × (bitAnd status 0x3A ≡ c .errors)
 
--- registers answer at all times: neither mode nor operation nor image has a part in it
+-- registers answer at all times: neither mode nor operation nor image plays a role
 unfoldable pub RegistersAnswer : Type 0
 RegistersAnswer =
     (d : Device) (sample address byte : ℕ)

@@ -94,9 +94,35 @@ module _ (part straps address b : ℕ) where
       let o = eqb-true (address - base) (lockOffset b) (and-right (ltb b 16) _ (p .1)) in
       omega arith
 
-pub lock-at : (part straps b : ℕ) → b < 16 → registerAt part straps (registerBase part straps + lockOffset b) ≡ Lock b
+-- an offset from the base
+at-offset : (part straps o : ℕ) → registerAt part straps (registerBase part straps + o) ≡ firstAt (registers (isLpc part)) o
 unfolding registerAt
-lock-at part straps b h =
+at-offset part straps o =
     let base = registerBase part straps in
-    let o : base + lockOffset b - base ≡ lockOffset b = omega arith in
-    rw (le-ltb (base + lockOffset b) base (omega arith), o) (lock-found (isLpc part) b h)
+    let e : base + o - base ≡ o = omega arith in
+    rw (le-ltb (base + o) base (omega arith), e)
+
+pub lock-at : (part straps b : ℕ) → b < 16 → registerAt part straps (registerBase part straps + lockOffset b) ≡ Lock b
+lock-at part straps b h = at-offset part straps (lockOffset b) ∙ lock-found (isLpc part) b h
+
+-- a part's own by their whole addresses
+pub own-at : (straps : ℕ)
+    → (registerAt 0 straps 0xFBC0100 ≡ Inputs)
+    × (registerAt 0 straps 0xFBC0000 ≡ MakerCode)
+    × (registerAt 0 straps 0xFBC0001 ≡ DeviceCode)
+    × (registerAt 1 straps (0xFF8C0100 + (3 - straps) * 0x100000) ≡ Inputs)
+    × (registerAt 1 straps (0xFF8C0000 + (3 - straps) * 0x100000) ≡ Missing)
+    × (registerAt 1 straps (0xFF8C0001 + (3 - straps) * 0x100000) ≡ Missing)
+unfolding registerBase
+own-at straps =
+    let w = (3 - straps) * 0x100000 in
+    let i : 0xFF8C0100 + w ≡ 0xFF800000 + w + 0xC0100 = omega arith in
+    let m : 0xFF8C0000 + w ≡ 0xFF800000 + w + 0xC0000 = omega arith in
+    let d : 0xFF8C0001 + w ≡ 0xFF800000 + w + 0xC0001 = omega arith in (
+      at-offset 0 straps 0xC0100,
+      at-offset 0 straps 0xC0000,
+      at-offset 0 straps 0xC0001,
+      rw i (at-offset 1 straps 0xC0100),
+      rw m (at-offset 1 straps 0xC0000),
+      rw d (at-offset 1 straps 0xC0001),
+    )

@@ -1,4 +1,4 @@
--- Document 02, #101: what the two parts have each of its own, by the part's number. Assumes nothing.
+-- Document 02, #101: what differs between the two parts, by the part's number. Assumes nothing.
 use Prim.Native.Nat.{ℕ, _-_}
 use mathlib.Core.Bool.{cond}
 use lib.Dec.{eqb}

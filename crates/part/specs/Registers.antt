@@ -15,7 +15,7 @@ use Rattle.part.specs.Parts.{windowOf}
 unfoldable pub registerBase : ℕ → ℕ → ℕ
 registerBase part straps = cond (isLpc part) (0xFF800000 + windowOf straps * 0x100000) 0xFB00000
 
--- a register, and how far from the base on it stands
+-- a register, and how far above the base it stands
 pub record Entry : Type 0 where
   pub at : ℕ
   pub what : Register

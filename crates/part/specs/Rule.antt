@@ -1,5 +1,6 @@
 -- Document 02, #103, "the rule base plus block times 10000h in place of its table": what stands at an offset from a part's base,
--- computed. The registers of block b stand from b times 10000h on, and from block 16 on there are none. Each block has its
+-- computed. The registers of block b stand from b times 10000h on, and from block 16 on there are none; below the base there are
+-- none either (part/specs/Registers: registerAt). Each block has its
 -- lock 0002h above that, and block 12 inputs 0100h above, and on FWH maker and device 0000h and 0001h above. That this finds
 -- what the list of a part's registers has is proved (part/proofs/Lookup: ruled). Assumes nothing.
 use Prim.Native.Nat.{ℕ, _/_, _%_}

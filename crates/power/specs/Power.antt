@@ -1,4 +1,4 @@
--- Document 01, "What can be called" and "Numbered answers": power up and set times. Assumes nothing.
+-- Document 01, "What can be called" and "Numbered answers", and document 02, #101: power up and set times. Assumes nothing.
 use Prim.Native.Nat.{ℕ}
 use mathlib.Core.Path.{_≡_}
 use mathlib.Core.Bool.{cond}

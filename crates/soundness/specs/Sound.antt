@@ -1,4 +1,4 @@
--- Document 01, "A device is sound when", clause by clause. A tag out of its range is unsound; the fields of what is
+-- Document 01, "A device is sound when", clause by clause, with what document 02, #101, adds for LPC. A tag out of its range is unsound; the fields of what is
 -- absent are not looked at. Assumes nothing.
 use Prim.Native.Nat.{ℕ}
 use mathlib.Core.Bool.{Bool, true, cond, not, _&&_}
@@ -32,7 +32,7 @@ knownFrom part = cond (isLpc part) 2 1
 unfoldable pub addressLimit : ℕ → ℕ
 addressLimit part = cond (isLpc part) 0x100000000 0x10000000
 
--- a frame of known direction, with its last clock but one
+-- a frame of known direction: from that clock on to its last clock but one, its address no longer than the part's
 unfoldable pub stageFits : ℕ → Frame → ℕ → Bool
 stageFits part f last =
     all (leb (knownFrom part) (f .clock) ∷ leb (f .clock) last ∷ ltb (f .address) (addressLimit part) ∷ [])

@@ -1,4 +1,4 @@
--- Document 01, "Run": from power-up through a stream of samples. Assumes nothing.
+-- Document 01, "Run", and document 02, #101: from power-up through a stream of samples. Assumes nothing.
 use Prim.Native.Nat.{ℕ, _/_, _%_}
 use mathlib.Core.Path.{_≡_}
 use mathlib.Core.Bool.{Bool, true, false, cond}
