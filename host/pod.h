@@ -53,8 +53,8 @@ enum { POD_PART_FWH = 0, POD_PART_LPC = 1 };
 
 /* The ranges of straps (from 0; by the part) and times (microseconds, each from 1), and the clocks of a microsecond. */
 enum {
-    POD_STRAPS_MOST = 15,
-    POD_LPC_STRAPS_MOST = 3,
+    POD_STRAPS_MOST = 15,    /* of POD_PART_FWH, and so of a bay sheet */
+    POD_LPC_STRAPS_MOST = 3, /* of POD_PART_LPC */
     POD_PROGRAM_MOST = 200,
     POD_SLICE_MOST = 39062,
     POD_PAUSE_MOST = 30,
@@ -133,7 +133,7 @@ struct pod_times {
 };
 
 /* The frame in progress. kind: POD_FRAME_.., BEGUN being an LPC frame at clock 1, whose direction is not known yet;
- * clock: the last clock of it that is done, from 1. */
+ * clock: the last clock of it that is done, from 1; address: of 28 bits on FWH, of 32 on LPC. */
 struct pod_frame {
     uint8_t kind;
     uint8_t clock;
@@ -188,8 +188,8 @@ struct pod_part    { uint32_t from, start, length; };
 /* Where the bytes of a pod_part are to be found; POD_FROM_FRONT shows none, its start and length are 0. */
 enum { POD_FROM_FRONT = 0, POD_FROM_IMAGE = 1, POD_FROM_PAGE = 2 };
 
-/* A device fresh from power-up: which part, straps as a number, times in microseconds. Refusals 3, 4; the device is
- * then the FWH one with straps 0 and times 10, 3906 and 30. */
+/* A device fresh from power-up: which part, straps as a number (on LPC bit 1 is ID1 and bit 0 is ID0), times in
+ * microseconds. Refusals 3, 4; the device is then the FWH one with straps 0 and times 10, 3906 and 30. */
 struct pod_powered pod_power_up(uint32_t part, uint32_t straps, uint32_t program, uint32_t slice, uint32_t pause);
 
 /* The device with other times (microseconds), which hold for operations accepted from now on; those in progress keep

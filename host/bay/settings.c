@@ -5,6 +5,7 @@
 #include "bay/text.h"
 #include "bay/trouble.h"
 #include "bay/words.h"
+#include "bus/addresses.h"
 #include "pod.h"
 
 #include <string.h>
@@ -13,23 +14,12 @@ enum { SHEET_MOST = 4096 };
 
 static const struct settings usual = { POD_PART_FWH, 0, 10, 3906, 30 };
 
-static const struct {
-    const char *word;
-    uint32_t straps_most;
-} parts[] = {
-    [POD_PART_FWH] = { "fwh", POD_STRAPS_MOST },
-    [POD_PART_LPC] = { "lpc", POD_LPC_STRAPS_MOST },
-};
+static const char *const parts[] = { [POD_PART_FWH] = "fwh", [POD_PART_LPC] = "lpc" };
 enum { PARTS = sizeof parts / sizeof parts[0] };
 
 const char *part_word(uint32_t part)
 {
-    return parts[part].word;
-}
-
-uint32_t straps_most(uint32_t part)
-{
-    return parts[part].straps_most;
+    return parts[part];
 }
 
 int part_take(const char *word, uint32_t *out)
@@ -38,7 +28,7 @@ int part_take(const char *word, uint32_t *out)
         return 0;
     }
     for (uint32_t part = 0; part < PARTS; part++) {
-        if (strcmp(word, parts[part].word) == 0) {
+        if (strcmp(word, parts[part]) == 0) {
             *out = part;
             return 0;
         }

@@ -29,9 +29,8 @@ int settings_take(const struct settings_options *options, struct settings *out);
 /* Reads a bay sheet, which says no part and is one of FWH's. */
 int settings_from_sheet(const char *path, struct settings *out);
 
-/* The word that --part takes for a part, as "fwh", and the most that its straps can be. */
+/* The word that --part takes for a part, as "fwh". */
 const char *part_word(uint32_t part);
-uint32_t straps_most(uint32_t part);
 
 /* Takes such a word; with null the part stays. Gives 0 or a status after a message. */
 int part_take(const char *word, uint32_t *out);

@@ -56,16 +56,10 @@ static void tell_act(struct tracer *tracer)
     }
 }
 
-/* Whether it is an LPC frame without one of the two cycle types: before its clock 2, or with another one there. */
-static bool has_no_type(const struct frame *frame)
-{
-    unsigned type = frame->select & ~(unsigned)FRAME_TYPE_FREE;
-    return frame->part == POD_PART_LPC && type != FRAME_TYPE_READ && type != FRAME_TYPE_WRITE;
-}
-
+/* An LPC frame that is over before its clock 2, or has another cycle type there, has only begun. */
 static const char *kind_of(const struct frame *frame)
 {
-    if (has_no_type(frame)) {
+    if (!frame_has_direction(frame)) {
         return "begun";
     }
     return frame->write ? "write" : "read";
@@ -98,7 +92,7 @@ static void tell_whole_frame(struct tracer *tracer)
     const struct frame *frame = &tracer->watched.frame;
     if (tracer->watched.answered) {
         text_add(&how, "answered");
-    } else if (has_no_type(frame)) {
+    } else if (!frame_has_direction(frame)) {
         text_add(&how, "dropped (cycle type %Xh)", frame->select);
     } else if (frame->part == POD_PART_LPC) {
         text_add(&how, "not answered (%s)", brief_stranger(tracer->settings, frame->address).text);

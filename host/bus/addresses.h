@@ -30,6 +30,12 @@ static inline uint32_t address_most(unsigned part)
     return part == POD_PART_LPC ? ADDRESS_LPC_MOST : ADDRESS_MOST;
 }
 
+/* The most that a part's straps can be. */
+static inline uint32_t straps_most(unsigned part)
+{
+    return part == POD_PART_LPC ? POD_LPC_STRAPS_MOST : POD_STRAPS_MOST;
+}
+
 /* How far above those of straps 3 the addresses of other straps are. */
 static inline uint32_t address_window(unsigned straps)
 {
@@ -50,6 +56,12 @@ static inline uint32_t lock_address(unsigned part, unsigned straps, uint32_t blo
 static inline uint32_t inputs_address(unsigned part, unsigned straps)
 {
     return part == POD_PART_LPC ? ADDRESS_LPC_INPUTS + address_window(straps) : ADDRESS_INPUTS;
+}
+
+/* Where FWH has its maker code, and behind it its device code. On LPC nothing stands there. */
+static inline uint32_t codes_address(unsigned part, unsigned straps)
+{
+    return inputs_address(part, straps) - (ADDRESS_INPUTS - ADDRESS_MAKER);
 }
 
 static inline uint32_t block_of(uint32_t place)

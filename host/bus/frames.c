@@ -122,16 +122,25 @@ bool watch_begin(struct watched *watched, unsigned part, uint16_t sample)
     return true;
 }
 
+/* The cycle type of an LPC frame without the bit that does not count. */
+static unsigned type_of(const struct frame *frame)
+{
+    return frame->select & ~(unsigned)FRAME_TYPE_FREE;
+}
+
+bool frame_has_direction(const struct frame *frame)
+{
+    return frame->part != POD_PART_LPC || type_of(frame) == FRAME_TYPE_READ || type_of(frame) == FRAME_TYPE_WRITE;
+}
+
 /* Clock 2; says whether the frame goes on. */
 static bool watch_select(struct frame *frame, uint8_t host)
 {
-    unsigned type = host & ~(unsigned)FRAME_TYPE_FREE;
     frame->select = host;
-    if (frame->part != POD_PART_LPC) {
-        return true;
+    if (frame->part == POD_PART_LPC) {
+        frame->write = type_of(frame) == FRAME_TYPE_WRITE;
     }
-    frame->write = type == FRAME_TYPE_WRITE;
-    return type == FRAME_TYPE_READ || type == FRAME_TYPE_WRITE;
+    return frame_has_direction(frame);
 }
 
 bool watch_clock(struct watched *watched, const struct seen *seen)

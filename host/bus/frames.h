@@ -67,6 +67,9 @@ struct frame frame_write(unsigned part, unsigned straps, uint32_t address, uint8
 /* The last clock of a part's address. */
 unsigned frame_address_end(unsigned part);
 
+/* Whether a frame is known to read or to write: on LPC only by one of the two cycle types. */
+bool frame_has_direction(const struct frame *frame);
+
 unsigned frame_clocks(const struct frame *frame);
 
 /* The sample of one of its clocks, over an idle sample whose pins it keeps. */

@@ -4,7 +4,8 @@
  * on LPC 32. # begins a comment.
  *
  *   part fwh|lpc                  whose frames are laid (fwh when not said); before any sample
- *   straps N                      what frames select (0 when not said); before any sample
+ *   straps N                      what FWH frames select (0 when not said); LPC addresses are written whole, with the
+ *                                 bits that the straps ask for; before any sample
  *   pin tbl|wp low|high           from the next sample on (high when not said)
  *   voltage N | inputs XX         from the next sample on (1 and 00 when not said)
  *   lines N                       what the host leaves on the lines of an idle sample (F when not said)

@@ -18,26 +18,24 @@ uint32_t some_part(void)
     return rnd(POD_PART_LPC + 1);
 }
 
-uint32_t straps_most(uint32_t part)
-{
-    return part == POD_PART_LPC ? POD_LPC_STRAPS_MOST : POD_STRAPS_MOST;
-}
-
 uint32_t some_straps(uint32_t part)
 {
     return rnd(straps_most(part) + 1);
 }
 
-/* A number above `most`: the next, one that a narrower type would cut down to a good one, or any. */
+/* A number above `most`: the next, one that a narrower type would cut down to a good one, or any, as often one of the
+ * first, since straps that LPC has not may be FWH's. */
 static uint32_t above(uint32_t most, uint32_t good)
 {
+    uint32_t further = 0;
     switch (rnd(3)) {
     case 0:
         return most + 1;
     case 1:
         return good + (1u << (4 + rnd(28)));
     default:
-        return most + 1 + rnd(UINT32_MAX - most);
+        further = rnd(UINT32_MAX - most);
+        return most + 1 + (further % 2 == 0 ? further : further / 2 % POD_STRAPS_MOST);
     }
 }
 
@@ -103,9 +101,9 @@ uint32_t some_array_address(void)
 /* One of the registers that are no locks, or what is beside them; on LPC no codes stand there. */
 static uint32_t some_fixed_register(void)
 {
-    const uint32_t codes = inputs_address(model.part, model.straps) - (ADDRESS_INPUTS - ADDRESS_MAKER);
     const uint32_t beside = rnd(4);
-    return beside == 0 ? inputs_address(model.part, model.straps) : codes + beside - 1;
+    return beside == 0 ? inputs_address(model.part, model.straps)
+                       : codes_address(model.part, model.straps) + beside - 1;
 }
 
 /* An address of any bits. */

@@ -6,9 +6,8 @@
 
 #include <stdint.h>
 
-/* A part; the most straps that a part allows, and some that it does. */
+/* A part, and straps that it allows. */
 uint32_t some_part(void);
-uint32_t straps_most(uint32_t part);
 uint32_t some_straps(uint32_t part);
 
 /* The same, one in `bad` a number that is no part, or straps that this part does not allow. */

@@ -62,7 +62,7 @@
     TALLY(SETTLE_IN_FRAME, "settles in a frame") \
     TALLY(SETTLE_FRAME_ACTED, "writes acting in a settle") \
     TALLY(SETTLE_CLOCKS, "clocks in settles") \
-    TALLY(SETTLE_LPC_TYPED, "LPC directions taken in a settle") \
+    TALLY(SETTLE_LPC_BEGUN, "settles from clock 1 of an LPC frame") \
     TALLY(SENT_ELSEWHERE, "states set to other sound ones") \
     TALLY(SENT_TO_PART, "states set to the other part") \
     TALLY(VIEWS_IMAGE, "views of the image") \

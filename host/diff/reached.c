@@ -31,8 +31,8 @@ static bool is_lock_register(const struct model *m, uint32_t address)
 /* The maker and the device code of FWH, or what is at their place on LPC. */
 static bool is_at_codes(const struct model *m, uint32_t address)
 {
-    return inputs_address(m->part, m->straps) - address == ADDRESS_INPUTS - ADDRESS_MAKER ||
-           inputs_address(m->part, m->straps) - address == ADDRESS_INPUTS - ADDRESS_DEVICE;
+    const uint32_t codes = codes_address(m->part, m->straps);
+    return address == codes || address == codes + 1;
 }
 
 /* Whether a judgement now would turn down the operation that is ending. */
@@ -278,7 +278,7 @@ void count_settle(const struct model *before, const struct model *after, const s
     if (before->frame != FRAME_NONE && count > 0) {
         tally(SETTLE_IN_FRAME);
         if (before->frame == FRAME_BEGUN) {
-            tally(SETTLE_LPC_TYPED);
+            tally(SETTLE_LPC_BEGUN);
         }
         if (before->frame == FRAME_WRITE && before->clock < FRAME_CLOCK_ACT &&
             before->clock + count >= FRAME_CLOCK_ACT && (after->frame == FRAME_WRITE || count > 6)) {

@@ -22,13 +22,12 @@ static uint8_t draw_command(struct draws *draws)
 /* The array, the lock registers, the other registers, or anywhere. */
 static uint32_t draw_address(struct draws *draws, unsigned part, unsigned straps)
 {
-    const uint32_t inputs = inputs_address(part, straps);
     uint32_t block = (uint32_t)draw_below(draws, POD_BLOCKS);
     switch (draw_below(draws, 4)) {
     case 0:
         return lock_address(part, straps, block);
     case 1:
-        return inputs + 0x10 - (uint32_t)draw_below(draws, ADDRESS_INPUTS + 0x10 - ADDRESS_MAKER);
+        return codes_address(part, straps) + (uint32_t)draw_below(draws, ADDRESS_INPUTS + 0x10 - ADDRESS_MAKER);
     case 2:
         return (uint32_t)draw(draws) & address_most(part);
     default:

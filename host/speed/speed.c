@@ -84,8 +84,8 @@ static void print_mix(void)
     if (row_count == TRAFFIC_ROWS) {
         printf("The differential test's mix is left out: no traces were given.\n");
     } else {
-        printf("The mix is %zu traces of the differential test on FWH and %zu on LPC, %s samples in all, each from\n"
-               "its own power-up.\n",
+        printf("The mix is %zu traces of the differential test on FWH and %zu others on LPC, %s samples in all, each\n"
+               "from its own power-up.\n",
                fwh->count, lpc->count, with_commas(fwh->samples + lpc->samples));
     }
 }
@@ -97,8 +97,8 @@ static void print_tables(void)
            "Million clocks in a second, on streams of %s samples. A ratio above 1 says that the pod is the faster.\n"
            "model_run steps every clock; pod_run takes what it knows by looking ahead at once. In the rows of an erase "
            "begun\n"
-           "a slice takes 3,906 µs, so that none ends in the stream. A row of LPC has the traffic of the row above it\n"
-           "laid as LPC frames; the last ratio is that of their speeds.\n",
+           "a slice takes 3,906 µs, so that none ends in the stream. A row of LPC, but for the mix, has the traffic\n"
+           "of the row above it laid as LPC frames; the last ratio is that of their speeds.\n",
            with_commas(MOST_SAMPLES));
     print_mix();
     printf("\n");

@@ -149,14 +149,14 @@ static void idle_bus(void)
 /* On LPC nothing stands where FWH has the maker and the device code. */
 static void register_reads(void)
 {
-    const uint32_t inputs = inputs_address(laid.part, STRAPS);
+    const uint32_t codes = codes_address(laid.part, STRAPS);
     while (!is_full()) {
         for (uint32_t block = 0; block < POD_BLOCKS; block++) {
             lay_read(lock_address(laid.part, STRAPS, block));
         }
-        lay_read(inputs - (ADDRESS_INPUTS - ADDRESS_MAKER));
-        lay_read(inputs - (ADDRESS_INPUTS - ADDRESS_DEVICE));
-        lay_read(inputs);
+        lay_read(codes);
+        lay_read(codes + 1);
+        lay_read(inputs_address(laid.part, STRAPS));
     }
 }
 

@@ -10,8 +10,8 @@ enum { AFTER_ACTING = FRAME_WRITE_CLOCKS - FRAME_CLOCK_ACT };
 /* Compares all waits on both parts, but the one that is too long to be stepped whole. */
 void waits_check(void);
 
-/* Compares and times all waits on FWH, whose bus is idle, and prints what they took; prints nothing where a comparison
- * failed. */
+/* Compares and times all waits and prints what they took; prints nothing where a comparison failed. On FWH alone: the
+ * bus is idle, where the parts are the same. */
 void print_waits(void);
 
 #endif

@@ -116,9 +116,8 @@ static void gather_both(uint32_t address)
 
 static uint32_t register_address(uint32_t which)
 {
-    const uint32_t inputs = inputs_address(part, straps);
-    const uint32_t own[] = { inputs, inputs - (ADDRESS_INPUTS - ADDRESS_MAKER),
-                             inputs - (ADDRESS_INPUTS - ADDRESS_DEVICE) };
+    const uint32_t codes = codes_address(part, straps);
+    const uint32_t own[] = { inputs_address(part, straps), codes, codes + 1 };
     return which < POD_BLOCKS ? lock_address(part, straps, which) : own[which - POD_BLOCKS];
 }
 
@@ -156,7 +155,8 @@ static void each_random_lpc(void (*try)(uint32_t address))
     }
 }
 
-/* A bit of each lock register's block, and of its low bits, in each of the four windows and in those of the array. */
+/* The first few addresses of each block, a lock register's among them, in the windows of all straps: first those of
+ * registers, then those of the array. */
 static void each_window(void (*try)(uint32_t address))
 {
     for (uint32_t window = 0; window < 8; window++) {

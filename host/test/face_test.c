@@ -1,5 +1,6 @@
 /* Tests two promises of pod.h: that a pointer whose length is 0 is not looked at, and that its names stand for what the
  * part does. */
+#include "bus/addresses.h"
 #include "bus/pins.h"
 #include "test/check.h"
 #include "test/compare.h"
@@ -172,11 +173,6 @@ static void expect_refusal(uint32_t wanted, uint32_t found, const char *call)
     }
 }
 
-static uint32_t straps_most(void)
-{
-    return tested.part == POD_PART_LPC ? POD_LPC_STRAPS_MOST : POD_STRAPS_MOST;
-}
-
 static uint32_t run_number(uint32_t part, uint32_t straps, uint32_t pause, size_t image_length, size_t stream_length,
                            size_t room)
 {
@@ -189,7 +185,7 @@ static uint32_t run_number(uint32_t part, uint32_t straps, uint32_t pause, size_
 static struct pod_device unsound_device(void)
 {
     struct pod_device device = device_in(IS_READY);
-    device.straps = (uint8_t)(straps_most() + 1);
+    device.straps = (uint8_t)(straps_most(tested.part) + 1);
     return device;
 }
 
@@ -222,11 +218,11 @@ static void test_numbers_refused(void)
 {
     const uint32_t p = POD_PROGRAM_MOST, s = POD_SLICE_MOST, z = POD_PAUSE_MOST, part = tested.part;
     struct lent sheet = lent_new(POD_SHEET_BYTES);
-    expect(POD_DONE, pod_power_up(part, straps_most(), p, s, z).number, "power up with the most of all");
+    expect(POD_DONE, pod_power_up(part, straps_most(part), p, s, z).number, "power up with the most of all");
     expect(POD_DONE, pod_power_up(part, 0, 1, 1, 1).number, "power up with the least of all");
-    expect_refusal(POD_REFUSED_STRAPS, pod_power_up(part, straps_most() + 1, p, s, z).number, "power up");
+    expect_refusal(POD_REFUSED_STRAPS, pod_power_up(part, straps_most(part) + 1, p, s, z).number, "power up");
     expect_refusal(POD_REFUSED_STRAPS, pod_power_up(part, UINT32_MAX, p, s, z).number, "power up");
-    expect_refusal(POD_REFUSED_STRAPS, pod_power_up(part, straps_most() + 1, p, s, 0).number, "power up");
+    expect_refusal(POD_REFUSED_STRAPS, pod_power_up(part, straps_most(part) + 1, p, s, 0).number, "power up");
     expect_refusal(POD_REFUSED_TIMES, pod_power_up(part, 0, p + 1, s, z).number, "power up");
     expect_refusal(POD_REFUSED_TIMES, pod_power_up(part, 0, p, s + 1, z).number, "power up");
     expect_refusal(POD_REFUSED_TIMES, pod_power_up(part, 0, p, s, z + 1).number, "power up");
@@ -282,9 +278,9 @@ static void test_runs_refused(void)
     const uint32_t part = tested.part;
     const size_t all = POD_IMAGE_BYTES, longest = POD_STREAM_BYTES, room = POD_STREAM_BYTES / 2;
     expect(POD_DONE, run_number(part, 0, 30, all, longest, room), "the longest run");
-    expect(POD_DONE, run_number(part, straps_most(), 30, all, longest, room), "the same with the most straps");
+    expect(POD_DONE, run_number(part, straps_most(part), 30, all, longest, room), "the same with the most straps");
     expect_refusal(POD_REFUSED_IMAGE, run_number(part, 0, 30, all - 1, longest, room), "run");
-    expect_refusal(POD_REFUSED_STRAPS, run_number(part, straps_most() + 1, 30, all, longest, room), "run");
+    expect_refusal(POD_REFUSED_STRAPS, run_number(part, straps_most(part) + 1, 30, all, longest, room), "run");
     expect_refusal(POD_REFUSED_TIMES, run_number(part, 0, 0, all, longest, room), "run");
     expect_refusal(POD_REFUSED_STREAM, run_number(part, 0, 30, all, longest - 1, room), "run");
     expect_refusal(POD_REFUSED_STREAM, run_number(part, 0, 30, all, longest + 2, room + 1), "run");
@@ -338,7 +334,7 @@ static void test_names_of_names(void)
 static void test_frame_names(void)
 {
     const struct frame read = known_read(), write = write_of(in_lock(1), 0);
-    const bool lpc = tested.part == POD_PART_LPC;
+    const bool lpc = is_lpc();
     struct pod_device device = device_in(IS_READY);
     pod_clock(&device, image.bytes, POD_IMAGE_BYTES, frame_sample(&read, 1, POD_SAMPLE_IDLE));
     expect(lpc ? POD_FRAME_BEGUN : POD_FRAME_READ, device.frame.kind, "kind of a read on clock 1");

@@ -53,4 +53,5 @@ enum condition {
 extern const char *const condition_names[CONDITIONS];
 
 struct pod_device device_in(enum condition condition);
+
 #endif

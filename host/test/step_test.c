@@ -17,11 +17,6 @@
 
 enum { MAKER = 0x20 };
 
-static bool is_lpc(void)
-{
-    return tested.part == POD_PART_LPC;
-}
-
 /* ---- Frames. */
 
 /* All of a frame, which the part takes or drops. */
@@ -248,8 +243,8 @@ static void test_register_addresses(void)
             if (1u << bit != ADDRESS_IS_ARRAY)
                 test_register(addresses[i] ^ 1u << bit);
     check_group("registers: where FWH has its codes");
-    test_register(in_inputs() - (ADDRESS_INPUTS - ADDRESS_MAKER));
-    test_register(in_inputs() - (ADDRESS_INPUTS - ADDRESS_DEVICE));
+    test_register(codes_address(tested.part, tested.straps));
+    test_register(codes_address(tested.part, tested.straps) + 1);
     rig_images_stand();
 }
 

@@ -6,7 +6,7 @@
 
 struct tested tested = { .part = POD_PART_FWH, .straps = 5 };
 
-static bool is_lpc(void)
+bool is_lpc(void)
 {
     return tested.part == POD_PART_LPC;
 }

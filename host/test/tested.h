@@ -4,6 +4,7 @@
 
 #include "bus/frames.h"
 
+#include <stdbool.h>
 #include <stdint.h>
 
 /* FWH with straps 5 until another is said. */
@@ -14,6 +15,7 @@ extern struct tested tested;
 
 /* From now on about this part: FWH with straps 5, LPC with straps 2. */
 void test_as(uint32_t part);
+bool is_lpc(void);
 const char *tested_name(void);
 
 /* The device code of the signature. */

@@ -50,7 +50,8 @@ put() { dd if="$2" of=new.img bs=65536 skip="$1" seek="$1" count=1 conv=notrunc 
 seq 100000 300000 | head -c 1048576 >old.img
 seq 500000 900000 | head -c 1048576 >other.img
 
-# make_new WHAT BLOCKS...: new.img, with the blocks and three bytes of block 7 from another image, or all of it.
+# make_new WHAT BLOCKS...: new.img, with all of another image where WHAT is "all"; else with its blocks, and with three
+# other bytes in block 7.
 make_new() {
     if [ "$1" = all ]; then
         cp other.img new.img
@@ -64,8 +65,8 @@ make_new() {
     printf '\060\060\060' | dd of=new.img bs=1 seek=458753 conv=notrunc 2>/dev/null
 }
 
-# write_and_verify: flashrom's whole way with the part, from old.img to new.img.
-write_and_verify() { # BUS
+# write_and_verify BUS: flashrom's whole way with the part, from old.img to new.img.
+write_and_verify() {
     cp old.img board.img
 
     case_ "flashrom finds the $model among all parts that it knows"
@@ -126,12 +127,15 @@ make_new "$1" 15
 write_and_verify LPC
 
 case_ "neither part is taken for the other"
-start
-if updater -c M50FW080 -r read.img >out 2>&1; then
-    wrong "flashrom reads an M50FW080"
-fi
-says out "No EEPROM/flash device found."
-stop
+for pair in lpc:M50FW080 fwh:M50LPW080; do
+    part=${pair%:*} model=${pair#*:}
+    start
+    if chip -r read.img >out 2>&1; then
+        wrong "flashrom reads an $model where the part is $part"
+    fi
+    says out "No EEPROM/flash device found."
+    stop
+done
 
 echo "flashrom's write and verify took $took_fwh seconds, of the LPC part $took; it came again $again times"
 finish
