@@ -10,7 +10,7 @@
 #   make fuzz        the library against the C model on random traffic, until stopped; FUZZ_SEED says where to begin
 #   make fuzz-host   what reads files and sockets, on spoiled ones, for FUZZ_SECONDS seconds
 #   make bench       how fast the library is, beside the C model
-#   make flashrom    flashrom writes and verifies the whole part, some minutes long
+#   make flashrom    flashrom writes and verifies the whole of both parts, some minutes long
 #   make lint        every check that no compiler makes, over all files
 #   make clean
 
