@@ -1,9 +1,9 @@
 -- The heads of both parts, clock by clock while the frame line is high. Assumes nothing.
 use mathlib.Core.Path.{_≡_, refl}
-use mathlib.Core.Bool.{Bool, true, false, cond}
+use mathlib.Core.Bool.{true, false, cond}
 use Prim.Native.Nat.{ℕ, _+_, _/_, _≤_, _<_}
 use native.Mathlib.Omega.{arith}
-use lib.Dec.{eqb, ltb}
+use lib.Dec.{eqb}
 use borrow.Author.Tests.{ne-eqb, lt-ltb}
 use Rattle.basics.proofs.Rules.{Answer, yes, no, ask}
 use Rattle.record.specs.Record.{isLpc, frame, idle}

@@ -1,16 +1,15 @@
 -- A clock of the bus takes a frame whose stage is one of the part's to another. Assumes nothing.
 use mathlib.Core.Path.{_≡_, _∙_, sym, refl}
-use mathlib.Core.Bool.{Bool, true, false, cond}
-use mathlib.Core.List.{[], _∷_}
+use mathlib.Core.Bool.{true, false}
 use Prim.Native.Nat.{ℕ, _+_, _*_, _/_, _%_, _≤_, _<_}
 use native.Mathlib.Omega.{arith}
-use lib.Dec.{eqb, ltb, leb}
+use lib.Dec.{eqb, ltb}
 use borrow.Author.Tests.{ltb-true, ltb-false, leb-true, eqb-true, eq-eqb, ne-eqb, lt-ltb, le-leb}
 use Rattle.basics.specs.All.{all}
 use Rattle.basics.proofs.Rules.{Answer, yes, no, ask, clash}
 use Rattle.basics.proofs.All.{holds, also, none}
 use Rattle.record.specs.declared.Frame.{Frame}
-use Rattle.record.specs.Record.{isLpc, frame, idle, isIdle, isRead, isWrite, isBegun}
+use Rattle.record.specs.Record.{isLpc, frame, idle, isIdle, isRead, isWrite}
 use Rattle.record.specs.Sample.{lines, frameLine}
 use Rattle.soundness.specs.Sound.{knownFrom, addressLimit, stageFits, begunFits, frameFits}
 use Rattle.bus.specs.Frames.{begun, shifted, headed, cycled, isChosen, addressed, headedLpc, readOn, writeOn, nextOf, frameClock}

@@ -29,7 +29,7 @@ use Rattle.clock.specs.Clock.{withFrame, resetDevice, answeredTo, servedOf, aft
 use Rattle.clock.specs.Fold.{World, world, onward, answerTo, through, answersTo}
 use Rattle.clock.proofs.Fixed.{fixed-onward}
 use Rattle.clock.proofs.Broken as broken
-use Rattle.demands.specs.Demand2.{allHigh, noneResets, nibble, sevenIn, addressIn, dataIn, isFor, drivenByRead, drivenByWrite, driven, found, SameButForFrame, SameBehindTheBus, unheard, isReading}
+use Rattle.demands.specs.Demand2.{allHigh, noneResets, sevenIn, addressIn, dataIn, isFor, drivenByRead, drivenByWrite, driven, found, SameButForFrame, SameBehindTheBus, unheard, isReading}
 use Rattle.demands.specs.Demand2.{BrokenOffGivesNothing, WriteActs, FrameDrives, NothingDriven}
 
 -- of samples with the frame line high the first, and the others

@@ -1,8 +1,8 @@
 -- When a lock register changes: a reset, and a byte written to its address while its lock-down bit is 0. Assumes nothing.
 use Prim.Native.Nat.{ℕ, _+_, _-_, _*_, _/_, _%_, _<_}
 use mathlib.Core.Path.{_≡_, _∙_, sym, refl, ap}
-use mathlib.Core.Bool.{Bool, true, false, cond, _&&_}
-use mathlib.Core.List.{List, [], _∷_}
+use mathlib.Core.Bool.{false, cond, _&&_}
+use mathlib.Core.List.{List}
 use native.Mathlib.Omega.{arith}
 use lib.Dec.{eqb}
 use lib.ListN.{length, getD}

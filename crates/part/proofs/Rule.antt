@@ -12,7 +12,7 @@ use Rattle.record.specs.Record.{isLpc}
 use Rattle.part.specs.declared.Register.{Register}
 use Rattle.part.specs.declared.Register.the-variants.{Lock, Inputs, MakerCode, DeviceCode, Missing}
 use Rattle.part.specs.Registers.{Entry, registerBase, lockOffset, registers, firstAt, registerAt}
-use Rattle.basics.proofs.Rules.{Answer, yes, no, ask, clash, and-left, and-right, and-both}
+use Rattle.basics.proofs.Rules.{Answer, yes, no, ask, clash, and-left, and-right}
 use Rattle.basics.proofs.Table.{at}
 
 pub none-of : (es : List Entry) (o : ℕ) (d : Entry)

@@ -1,5 +1,4 @@
 -- Straps that a part allows: there is such a part, and they fit a nibble. Assumes nothing.
-use mathlib.Core.Path.{_≡_}
 use Prim.Native.Nat.{ℕ, _<_}
 use native.Mathlib.Omega.{arith}
 use lib.Dec.{eqb}

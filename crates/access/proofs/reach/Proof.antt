@@ -1,6 +1,5 @@
 use borrow.Author.Needs.{needs}
 use native.Mathlib.Omega.{arith}
-use Rattle.basics.proofs.Rules.{cases}
 use Rattle.access.specs.Write.{reachedOf}
 use Rattle.access.proofs.reach.Statement.{statement}
 use Rattle.access.proofs.reach.Tie as tie

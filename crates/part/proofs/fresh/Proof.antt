@@ -1,8 +1,6 @@
-use mathlib.Core.Path.{_≡_, _∙_, ap, sym}
+use mathlib.Core.Path.{_≡_}
 use native.Mathlib.Omega.{arith}
-use Prim.Native.Nat.{ℕ}
 use borrow.Author.Needs.{needs}
-use Rattle.part.specs.Fresh.{freshOf}
 use Rattle.part.proofs.fresh.Statement.{statement}
 use Rattle.part.proofs.fresh.Tie as tie
 

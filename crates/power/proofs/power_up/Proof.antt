@@ -1,5 +1,3 @@
-use mathlib.Core.Path.{_≡_}
-use Prim.Native.Nat.{ℕ, _<_}
 use native.Mathlib.Omega.{arith}
 use borrow.Author.Needs.{needs}
 use borrow.Author.Tests.{lt-leb}
