@@ -1,4 +1,6 @@
 // What stands behind an address: the value that a read finds there, and what a byte written there does.
+#![tactic(auto)]
+
 ghost use Rattle.std.specs.Prelude.{◌≡◌, ◌<◌, get_or};
 ghost use Rattle.access.specs.Read.{is_array, array_address, lock_of, register_value, signature_of, array_value, value_of};
 ghost use Rattle.access.specs.Write.{lock_written, array_written, reached_of};

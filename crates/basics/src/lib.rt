@@ -1,4 +1,6 @@
 // What every room shares: small functions on bools, numbers and bytes, and the proof kit.
+#![tactic(auto)]
+
 ghost use Rattle.std.specs.Prelude.{◌≡◌, ◌&&◌, ◌||◌, ◌+◌, ◌*◌, ◌<◌, ◌≤◌, length};
 ghost use Rattle.basics.specs.Numbers.{lesser};
 ghost use Rattle.basics.specs.Bytes.{two_at, filled};

@@ -1,4 +1,6 @@
 // The frames: what each clock of the bus takes, asks and drives.
+#![tactic(auto)]
+
 ghost use Rattle.std.specs.Prelude.{◌≡◌, ◌<◌};
 ghost use Rattle.record.specs.Record.{frame};
 ghost use Rattle.bus.specs.Frames.{shifted, headed, cycled, is_chosen, addressed, headed_lpc, read_on, write_on, next_of, begun, frame_clock, asked_of, driven_of};

@@ -1,4 +1,6 @@
 // One clock, in order: reset, or the controller with its effect on the image and then the bus.
+#![tactic(auto)]
+
 ghost use Rattle.std.specs.Prelude.{◌≡◌, true, length};
 ghost use Rattle.soundness.specs.Sound.{sound_of, controller_fits};
 ghost use Rattle.clock.specs.Clock.{reset_device, is_cut, served_of, device_clock, image_after};

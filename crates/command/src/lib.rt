@@ -1,5 +1,7 @@
 // What the part does with a byte that is written to the array: the command table and the setups. It knows nothing of
 // frames.
+#![tactic(auto)]
+
 ghost use Rattle.std.specs.Prelude.{◌≡◌, ◌<◌};
 ghost use Rattle.command.specs.Commands.{row_of, column_of, action_of, acted};
 ghost use Rattle.command.specs.Setup.{accepted_of, starting, failing, answered, unconfirmed, written_of};

@@ -1,4 +1,6 @@
 // What a clock does to the array, as a value, and the single function that does it to the image.
+#![tactic(auto)]
+
 ghost use Rattle.std.specs.Prelude.{◌≡◌, length};
 ghost use Rattle.effect.specs.Effect.{FitsIn, applied};
 

@@ -1,4 +1,6 @@
 // Many clocks of the controller at once, with nothing said to it between.
+#![tactic(auto)]
+
 ghost use Rattle.std.specs.Prelude.{◌≡◌, true, ◌≤◌, length};
 ghost use Rattle.soundness.specs.Sound.{operation_fits, controller_fits};
 ghost use Rattle.fast_forward.specs.Forward.{forward, forwarding, operation_before_due, controller_before_due, operation_later};

@@ -1,5 +1,7 @@
 // A device through a stream of samples: stretches that are known by looking ahead at once, all else clock by clock. What every
 // stretch leaves is promised; how far one goes is speed, and not promised.
+#![tactic(auto)]
+
 ghost use Rattle.std.specs.Prelude.{◌≡◌, true, false, List, ◌++◌, ℕ, ◌+◌, ◌-◌, ◌*◌, ◌/◌, ◌≤◌, ◌<◌, length, drop};
 ghost use Rattle.record.specs.declared.Device.{Device};
 ghost use Rattle.soundness.specs.Sound.{controller_fits, sound_of};

@@ -1,5 +1,7 @@
 // The step over a device that the host keeps: it takes the record out, steps it by value and, where the step was done,
 // puts the next one back. A refusal stores nothing.
+#![tactic(auto)]
+
 ghost use Rattle.inplace.specs.Clocked.{StepsInPlace};
 
 use record::Device;

@@ -1,4 +1,6 @@
 // What of a stream is known by looking ahead: stretches of an idle bus, and frames that lie in it whole.
+#![tactic(auto)]
+
 ghost use Rattle.std.specs.Prelude.{◌≡◌, true, false, ◌+◌, ◌*◌, ◌≤◌, ◌<◌, length};
 ghost use Rattle.record.specs.Sample.{lines, is_idle_sample, sample_at};
 ghost use Rattle.basics.specs.Bytes.{put};

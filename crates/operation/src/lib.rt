@@ -1,5 +1,7 @@
 // One clock of an operation, and reset: what time does to the controller. No pin, voltage or lock register is to be
 // found among the arguments.
+#![tactic(auto)]
+
 ghost use Rattle.std.specs.Prelude.{◌≡◌, true, false, ◌<◌};
 ghost use Rattle.record.specs.Record.{is_absent};
 ghost use Rattle.soundness.specs.Sound.{operation_fits, controller_fits};

@@ -1,4 +1,6 @@
 // The parts: what both have in common, what each has of its own, and the rule of their registers.
+#![tactic(auto)]
+
 ghost use Rattle.std.specs.Prelude.{◌≡◌, ◌<◌};
 ghost use Rattle.record.specs.Record.{is_lpc, block_of};
 ghost use Rattle.part.specs.Fresh.{resting, fresh_of};

@@ -1,4 +1,6 @@
 // Whether an operation may start: judged once, by the sample and the lock register of the write that ends its setup.
+#![tactic(auto)]
+
 ghost use Rattle.std.specs.Prelude.{◌≡◌};
 ghost use Rattle.permission.specs.Permission.{pin_low, into_suspended, judged};
 

@@ -1,4 +1,6 @@
 // The C face: each function hands its arguments to the room that has the work. What C must promise is said in pod.h.
+#![tactic(auto)]
+
 ghost use Rattle.power.specs.Power.{PowersUp, SetsTimes};
 ghost use Rattle.power.specs.Told.{TellsStatus, TellsMarks};
 ghost use Rattle.step.specs.Step.{Steps};

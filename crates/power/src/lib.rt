@@ -1,4 +1,6 @@
 // Power up and set times, and what a host may ask of a device.
+#![tactic(auto)]
+
 ghost use Rattle.std.specs.Prelude.{◌≡◌};
 ghost use Rattle.power.specs.Power.{power_refused, PowersUp, SetsTimes};
 ghost use Rattle.power.specs.Told.{TellsStatus, TellsMarks};

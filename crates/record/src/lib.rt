@@ -1,5 +1,7 @@
 // The structs that a host keeps, and what a sample's bits say. The structs hold numbers only, so that any bytes at all are
 // a device and soundness is tested, never assumed; what the numbers stand for is said in this room's specs.
+#![tactic(auto)]
+
 ghost use Rattle.std.specs.Prelude.{◌≡◌, ◌+◌, ◌*◌, ◌<◌, length};
 ghost use Rattle.record.specs.Record.{idle, absent};
 ghost use Rattle.record.specs.Sample.{lines, frame_line, rp, init, tbl, wp, voltage, inputs, is_reset, is_idle_sample, sample_at};

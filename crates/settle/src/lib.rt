@@ -1,4 +1,6 @@
 // Settle: one idle sample repeated until status bit 7 is 1, or as often as is allowed.
+#![tactic(auto)]
+
 ghost use Rattle.std.specs.Prelude.{◌≡◌, true, false, length};
 ghost use Rattle.record.specs.Sample.{is_idle_sample};
 ghost use Rattle.soundness.specs.Sound.{sound_of};

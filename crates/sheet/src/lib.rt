@@ -1,4 +1,6 @@
 // The bay sheet: the straps and the three times of a bay in thirteen bytes, read and written.
+#![tactic(auto)]
+
 ghost use Rattle.std.specs.Prelude.{◌≡◌, ◌++◌, ◌+◌, ◌*◌, ◌/◌, ◌%◌, ◌<◌, ◌≤◌, length, drop};
 ghost use Rattle.basics.specs.Bytes.{two_at};
 ghost use Rattle.sheet.specs.Sheet.{laid, field_at, of_layout, times_in, numbers_of, Reads, ReadsNumbers, WritesSheet};

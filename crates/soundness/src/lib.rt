@@ -1,4 +1,6 @@
 // When a device is sound, clause by clause.
+#![tactic(auto)]
+
 ghost use Rattle.std.specs.Prelude.{◌≡◌};
 ghost use Rattle.soundness.specs.Sound.{all_below, counts, left_fits, state_fits, operation_fits, outer_fits, apart, inside, inner_fits, setup_kinds, known_from, address_limit, stage_fits, begun_fits, frame_fits, controller_fits, sound_of};
 

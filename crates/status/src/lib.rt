@@ -1,4 +1,6 @@
 // What the controller is at, and what its status register says.
+#![tactic(auto)]
+
 ghost use Rattle.std.specs.Prelude.{◌≡◌};
 ghost use Rattle.status.specs.Status.{condition_of, condition_bits, status_of};
 

@@ -1,4 +1,6 @@
 // Step by value: a device, the image and one sample give the next device, one answer byte and the changed image.
+#![tactic(auto)]
+
 ghost use Rattle.step.specs.Step.{Steps};
 
 use clock::clock_device;

@@ -1,4 +1,6 @@
 // Run: from power-up through a stream of samples.
+#![tactic(auto)]
+
 ghost use Rattle.std.specs.Prelude.{◌≡◌};
 ghost use Rattle.record.specs.Sample.{samples};
 ghost use Rattle.stream.specs.Run.{overvolted, stream_number, run_number, Runs};

@@ -1,4 +1,6 @@
 // Microseconds and clocks: two types, one conversion between them, and the ranges of the three times.
+#![tactic(auto)]
+
 ghost use Rattle.std.specs.Prelude.{◌≡◌, true};
 ghost use Rattle.units.specs.Units.{times, in_clocks, in_range, times_fit};
 

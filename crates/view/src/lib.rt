@@ -1,4 +1,6 @@
 // The block view: what a reader sees of one block, the block itself or a page of zeros that the caller lends.
+#![tactic(auto)]
+
 ghost use Rattle.std.specs.Prelude.{◌≡◌, ◌<◌};
 ghost use Rattle.view.specs.Shown.{all_zero, is_zeros, can_show, read_locked, Shows, ShowsPiece};
 
