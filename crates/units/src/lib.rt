@@ -36,6 +36,7 @@ fn is_in_range(n: u32, most: u32) -> bool
 }
 
 // Whether three numbers of microseconds, as a host hands them in, are in their ranges.
+#[tactic(auto, using(basics::proofs::Rules::cases), unfolding(crate::specs::Units::times_fit, basics::specs::All::all))]
 pub fn are_times(program: u32, slice: u32, pause: u32) -> bool
     ensures { result ≡ times_fit (times program slice pause) }
 {

@@ -11,5 +11,5 @@ signature_spec =
     (tie.spec
     (λ c. search cases)
     (λ c κs. search rules)
-    (λ c. search (cases, c.device-code.ensures))
+    (λ c. search (cases, c.device_code.ensures))
     (λ c. search cases))

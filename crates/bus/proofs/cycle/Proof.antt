@@ -16,4 +16,4 @@ cycle_spec =
     (λ c κs. search rules)
     (λ c. search (cases, c.frame2.ensures))
     (λ c κs. search rules)
-    (λ c. search (cases, c.idle-frame.ensures)))
+    (λ c. search (cases, c.idle_frame.ensures)))

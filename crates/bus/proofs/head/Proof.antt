@@ -12,7 +12,7 @@ head_spec =
     (λ c κs. search rules)
     (λ c. search (cases, c.frame.ensures))
     (λ c κs. search rules)
-    (λ c. search (cases, c.idle-frame.ensures))
+    (λ c. search (cases, c.idle_frame.ensures))
     (λ c. search rules)
     (λ c κs. search rules)
     (λ c κs. search rules)

@@ -10,5 +10,5 @@ is_chosen_spec =
     tie.close
     (tie.spec
     (λ c κs. search rules)
-    (λ c. search (cases, c.window-of.ensures))
+    (λ c. search (cases, c.window_of.ensures))
     (λ c. search cases))

@@ -10,10 +10,10 @@ next_spec =
     tie.close
     (tie.spec
     (λ c κs. search rules)
-    (λ c. search (cases, c.head-lpc.ensures))
+    (λ c. search (cases, c.head_lpc.ensures))
     (λ c κs. search rules)
     (λ c. search (cases, c.head.ensures))
     (λ c κs. search rules)
-    (λ c. search (cases, c.read-on.ensures))
+    (λ c. search (cases, c.read_on.ensures))
     (λ c κs. search rules)
-    (λ c. search (cases, c.write-on.ensures)))
+    (λ c. search (cases, c.write_on.ensures)))

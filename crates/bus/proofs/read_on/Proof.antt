@@ -13,4 +13,4 @@ read_on_spec =
     (λ c κs. search rules)
     (λ c. search (cases, c.frame.ensures))
     (λ c κs. search rules)
-    (λ c. search (cases, c.idle-frame.ensures)))
+    (λ c. search (cases, c.idle_frame.ensures)))

@@ -19,4 +19,4 @@ write_on_spec =
     (λ c κs. search rules)
     (λ c. search (cases, c.frame3.ensures))
     (λ c κs. search rules)
-    (λ c. search (cases, c.idle-frame.ensures)))
+    (λ c. search (cases, c.idle_frame.ensures)))

@@ -10,8 +10,8 @@ is_eventless_spec =
     tie.close
     (tie.spec
     (λ c κs. search rules)
-    (λ c. search (cases, ← c.before.frame-line.ensures))
+    (λ c. search (cases, ← c.before.frame_line.ensures))
     (λ c κs. search rules)
     (λ c κs. search rules)
-    (λ c. search (cases, c.is-still.ensures, c.before.active_of.ensures, ← c.before.before.before.before.before.before.frame-line.ensures))
-    (λ c. search (cases, ← c.before.before.before.frame-line.ensures)))
+    (λ c. search (cases, c.is_still.ensures, c.before.active_of.ensures, ← c.before.before.before.before.before.before.frame_line.ensures))
+    (λ c. search (cases, ← c.before.before.before.frame_line.ensures)))

@@ -18,9 +18,9 @@ serve_spec =
     (λ c κs. search rules)
     (λ c. search rules)
     (λ c κs. search rules)
-    (λ c. rw (← c.before.before.before.clock-frame.ensures, ← c.before.before.ask.ensures, c.enum_told.given.1))
+    (λ c. rw (← c.before.before.before.clock_frame.ensures, ← c.before.before.ask.ensures, c.enum_told.given.1))
     (λ c.
     let a = c.before.before in
     let k = a.before.before in
-    rw (c.value.ensures, a.array-address.ensures, ← k.before.before.before.clock-frame.ensures, ← k.before.before.ask.ensures, a.before.before.address.given.1))
-    (λ c. rw (c.reach.ensures, ← c.before.before.before.before.before.clock-frame.ensures, ← c.before.before.before.before.ask.ensures, c.before.before.address2.given.1)))
+    rw (c.value.ensures, a.array_address.ensures, ← k.before.before.before.clock_frame.ensures, ← k.before.before.ask.ensures, a.before.before.address.given.1))
+    (λ c. rw (c.reach.ensures, ← c.before.before.before.before.before.clock_frame.ensures, ← c.before.before.before.before.ask.ensures, c.before.before.address2.given.1)))

@@ -10,6 +10,6 @@ accept_spec =
     tie.close
     (tie.spec
     (λ c κs. search rules)
-    (λ c. search (cases, c.in-clocks.ensures))
+    (λ c. search (cases, c.in_clocks.ensures))
     (λ c κs. search rules)
     (λ c. search (cases, c.in-clocks2.ensures)))

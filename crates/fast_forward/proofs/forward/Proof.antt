@@ -25,7 +25,7 @@ returns : tie.Need-returns invariant-loop decreases-loop
 returns c =
     let i = c.before in
     let a = i.before.before.before.args in
-    let e = rw i.before.active_of.ensures at (sym i.is-still.ensures ∙ c.if1.true) in
+    let e = rw i.before.active_of.ensures at (sym i.is_still.ensures ∙ c.if1.true) in
     sym (stops a.n 0 a.c a.image.now e)
 
 loop-holds : tie.Need-loop-init invariant-loop decreases-loop
@@ -33,20 +33,20 @@ loop-holds c =
     let i = c.before in
     let s = i.before.before.before in
     let r : replaced s.args.c i.before.active_of.result s.args.c.marks ≡ s.args.c = rw i.before.active_of.ensures (replaced_same s.args.c) in
-    (omega arith, refl, rw (r, sub-zero), record { moves = sym i.is-still.ensures ∙ c.if1.false; fits = rw r s.requires.0 })
+    (omega arith, refl, rw (r, sub-zero), record { moves = sym i.is_still.ensures ∙ c.if1.false; fits = rw r s.requires.0 })
 
 returns-2 : tie.Need-returns-2 invariant-loop decreases-loop
 returns-2 c =
     let w = c.before.before.before.before.before in
     let a = w.before.before.before.before.before.args in
-    rw (c.replace.ensures, c.before.operation-later.ensures)
+    rw (c.replace.ensures, c.before.operation_later.ensures)
     (sym (none_due a.n w.loop.done a.c w.loop.o w.loop.image w.loop.invariant.3 (omega arith) (omega arith)) ∙ w.loop.invariant.2)
 
 clock-operation-requires : tie.Need-clock-operation-requires invariant-loop decreases-loop
 clock-operation-requires c κs =
     let k = c.before.before in
     let w = k.before.before in
-    rw c.operation-later2.ensures (older_sound k.operation-before-due.result _ w.loop.o w.loop.invariant.3 (omega arith))
+    rw c.operation-later2.ensures (older_sound k.operation_before_due.result _ w.loop.o w.loop.invariant.3 (omega arith))
 
 apply-requires : tie.Need-apply-requires invariant-loop decreases-loop
 apply-requires c κs =
@@ -54,15 +54,15 @@ apply-requires c κs =
     let k = t.before.before.before in
     let w = k.before.before in
     let l : length w.loop.image ≡ 1048576 = w.loop.invariant.1 ∙ w.before.before.before.before.before.requires.1 in
-    rw (t.clock-operation.ensures, t.before.operation-later2.ensures, l)
-    (due_fits k.operation-before-due.result _ w.loop.o w.loop.invariant.3 (omega arith))
+    rw (t.clock_operation.ensures, t.before.operation-later2.ensures, l)
+    (due_fits k.operation_before_due.result _ w.loop.o w.loop.invariant.3 (omega arith))
 
 marks-after-requires : tie.Need-marks-after-requires invariant-loop decreases-loop
 marks-after-requires c κs =
     let g = c.before.before.before.before.before.before.before.before in
     let k = g.before.before in
     let w = k.before.before in
-    rw g.operation-later2.ensures (older_sound k.operation-before-due.result _ w.loop.o w.loop.invariant.3 (omega arith))
+    rw g.operation-later2.ensures (older_sound k.operation_before_due.result _ w.loop.o w.loop.invariant.3 (omega arith))
 
 same_length_2 : tie.Need-same-length-2 invariant-loop decreases-loop
 same_length_2 c =
@@ -78,10 +78,10 @@ returns-3 c =
     let k = t.before.before.before in
     let w = k.before.before in
     let s = w.before.before.before.before.before in
-    let h : k.operation-before-due.result ≤ operation_before_due w.loop.o = omega (arith, k.operation-before-due.ensures) in
-    let e = rw (t.clock-operation.ensures, t.before.operation-later2.ensures) at (sym i.is-still2.ensures ∙ c.before.before.if3.true) in
-    rw (c.replace2.ensures, c.before.marks-after.ensures, p.apply.ensures, t.clock-operation.ensures, t.before.operation-later2.ensures)
-    (sym (due_last k.operation-before-due.result s.args.c w.loop.o w.loop.invariant.3 h s.args.n w.loop.done w.loop.image t.before.before.if2.false s.requires.0 e)
+    let h : k.operation_before_due.result ≤ operation_before_due w.loop.o = omega (arith, k.operation_before_due.ensures) in
+    let e = rw (t.clock_operation.ensures, t.before.operation-later2.ensures) at (sym i.is-still2.ensures ∙ c.before.before.if3.true) in
+    rw (c.replace2.ensures, c.before.marks_after.ensures, p.apply.ensures, t.clock_operation.ensures, t.before.operation-later2.ensures)
+    (sym (due_last k.operation_before_due.result s.args.c w.loop.o w.loop.invariant.3 h s.args.n w.loop.done w.loop.image t.before.before.if2.false s.requires.0 e)
     ∙ w.loop.invariant.2)
 
 loop-again : tie.Need-loop-preserved invariant-loop decreases-loop
@@ -92,14 +92,14 @@ loop-again c =
     let k = t.before.before.before in
     let w = k.before.before in
     let a = w.before.before.before.before.before.args in
-    let h : k.operation-before-due.result ≤ operation_before_due w.loop.o = omega (arith, k.operation-before-due.ensures) in
-    let e = rw (t.clock-operation.ensures, t.before.operation-later2.ensures) at (sym i.is-still2.ensures ∙ c.if3.false) in (
+    let h : k.operation_before_due.result ≤ operation_before_due w.loop.o = omega (arith, k.operation_before_due.ensures) in
+    let e = rw (t.clock_operation.ensures, t.before.operation-later2.ensures) at (sym i.is-still2.ensures ∙ c.if3.false) in (
       omega (arith, t.before.before.if2.false),
       omega (arith, p.apply.auto.1.0, w.loop.invariant.1),
-      rw (p.apply.ensures, t.clock-operation.ensures, t.before.operation-later2.ensures)
-          (sym (due_more k.operation-before-due.result a.c w.loop.o w.loop.invariant.3 h a.n w.loop.done w.loop.image t.before.before.if2.false e)
+      rw (p.apply.ensures, t.clock_operation.ensures, t.before.operation-later2.ensures)
+          (sym (due_more k.operation_before_due.result a.c w.loop.o w.loop.invariant.3 h a.n w.loop.done w.loop.image t.before.before.if2.false e)
           ∙ w.loop.invariant.2),
-      rw (t.clock-operation.ensures, t.before.operation-later2.ensures) (due_counting k.operation-before-due.result a.c w.loop.o w.loop.invariant.3 h e),
+      rw (t.clock_operation.ensures, t.before.operation-later2.ensures) (due_counting k.operation_before_due.result a.c w.loop.o w.loop.invariant.3 h e),
     )
 
 returns-4 : tie.Need-returns-4 invariant-loop decreases-loop

@@ -12,7 +12,7 @@ returns-2 c =
     let i = t.before.before in
     let z = i.before.before.before.before in (
       omega arith,
-      λ d image q e. alone_clock _ _ _ _ _ _ _ _ (omega (arith, z.requires)) (omega (arith, z.requires)) (i.before.stops-before.ensures i.if1.false) (rw (t.before.sample-at.ensures, ← q, ← e) at t.clock-frame.ensures) (c.before.before.is-silent.ensures c.before.if2.true) (rw c.drive.ensures) (simp length-set),
+      λ d image q e. alone_clock _ _ _ _ _ _ _ _ (omega (arith, z.requires)) (omega (arith, z.requires)) (i.before.stops_before.ensures i.if1.false) (rw (t.before.sample_at.ensures, ← q, ← e) at t.clock_frame.ensures) (c.before.before.is_silent.ensures c.before.if2.true) (rw c.drive.ensures) (simp length-set),
     )
 
 pub clock_bus_spec : {M : Type 1} → statement M

@@ -12,7 +12,7 @@ returns : tie.Need-returns
 returns c =
     let t = c.before in
     let a = t.before.before.before.before.args in
-    let e = rw t.before.active_of.ensures at (sym t.is-still.ensures ∙ c.if1.true) in
+    let e = rw t.before.active_of.ensures at (sym t.is_still.ensures ∙ c.if1.true) in
     let s = still_later a.n a.d.controller a.image.now e in
     (rw s.0, rw s.1)
 

@@ -36,10 +36,10 @@ room : (w : tie.At-loop invariant-loop decreases-loop) → Room (start w).args.d
 room w = room_later (start w).requires.0 w.loop.invariant.1.size
 
 rests : (i : tie.Then1 invariant-loop decreases-loop) → let w = i.before.before.before.before in stays_idle w.loop.f (sample_at (start w).args.stream.now w.loop.k) ≡ true
-rests i = rw i.before.before.sample-at.ensures at (sym i.before.stays-idle.ensures ∙ i.if1.true)
+rests i = rw i.before.before.sample_at.ensures at (sym i.before.stays_idle.ensures ∙ i.if1.true)
 
 reads : (i : tie.Then2 invariant-loop decreases-loop) → let w = i.before.before.before.before.before.before in whole_frame (start w).args.stream.now (start w).args.d.part (start w).args.d.straps 1 w.loop.k (start w).args.to 18 ≡ true
-reads i = sym i.before.is-whole-frame.ensures ∙ i.if2.true
+reads i = sym i.before.is_whole_frame.ensures ∙ i.if2.true
 
 lies : (i : tie.Then2 invariant-loop decreases-loop) → let w = i.before.before.before.before.before.before in w.loop.k + 18 ≤ (start w).args.to
 lies i = let h = whole_room _ _ _ _ _ _ _ (reads i) in omega arith
@@ -49,8 +49,8 @@ loop-again c =
     let x = c.before.before.before in
     let w = c.before.before.before.before.before.before.before.before.before in
     let z = start w in
-    let q = x.skip-idle.ensures in
-    let p = alone_rest _ _ _ w.loop.k _ _ _ _ _ (room w) q.0 q.1 (rests x.before.before) q.2 x.skip-idle.auto.1.0 in
+    let q = x.skip_idle.ensures in
+    let p = alone_rest _ _ _ w.loop.k _ _ _ _ _ (room w) q.0 q.1 (rests x.before.before) q.2 x.skip_idle.auto.1.0 in
     (q.1, alone_on z.args.d z.args.to z.pre.1.1 q.1 w.loop.invariant.1 (rw c.end_Frame.ensures p))
 
 loop-again-2 : tie.Need-loop-preserved-2 invariant-loop decreases-loop
@@ -58,9 +58,9 @@ loop-again-2 c =
     let i = c.before.before.before.before.before.before.before in
     let w = i.before.before.before.before.before.before in
     let z = start w in
-    let r = c.before.before.before.before.before.before.sought-at.ensures in
+    let r = c.before.before.before.before.before.before.sought_at.ensures in
     let t = c.before.before in
-    let p = alone_read z.args.d _ _ w.loop.k w.loop.f _ _ _ _ (room w) (reads i) (rw (r.0, r.1, r.2) at c.before.before.before.before.value.ensures) t.answer-read.ensures t.answer-read.auto.0 in
+    let p = alone_read z.args.d _ _ w.loop.k w.loop.f _ _ _ _ (room w) (reads i) (rw (r.0, r.1, r.2) at c.before.before.before.before.value.ensures) t.answer_read.ensures t.answer_read.auto.0 in
     (lies i, alone_on z.args.d z.args.to z.pre.1.1 (lies i) w.loop.invariant.1 (rw r.0 p))
 
 returns : tie.Need-returns invariant-loop decreases-loop
@@ -68,13 +68,13 @@ returns c =
     let t = c.before.before.before.before in
     let w = t.before.before.before.before.before.before.before.before in
     let z = start w in
-    let x = t.clock-bus.ensures in
+    let x = t.clock_bus.ensures in
     (x.0, alone_on z.args.d z.args.to z.pre.1.1 x.0 w.loop.invariant.1 (x.1 _ _ refl refl))
 
 loop-less-3 : tie.Need-loop-smaller-3 invariant-loop decreases-loop
 loop-less-3 c =
     let t = c.before.before.before.before.before in
-    let x = t.clock-bus.ensures in
+    let x = t.clock_bus.ensures in
     omega (arith, x.0, (x.1 (start t.before.before.before.before.before.before.before.before).args.d [] refl refl).forward)
 
 loop-again-3 : tie.Need-loop-preserved-3 invariant-loop decreases-loop
@@ -82,7 +82,7 @@ loop-again-3 c =
     let t = c.before.before.before.before.before in
     let w = t.before.before.before.before.before.before.before.before in
     let z = start w in
-    let x = t.clock-bus.ensures in
+    let x = t.clock_bus.ensures in
     (x.0, alone_on z.args.d z.args.to z.pre.1.1 x.0 w.loop.invariant.1 (x.1 _ _ refl refl))
 
 pub run_bus_alone_spec : {M : Type 1} → statement M
@@ -96,18 +96,18 @@ run_bus_alone_spec =
     (λ c κs. tt)
     (λ c κs. let r = room c.before.before.before.before.before in (search rules, (r.given, (r.wide, (over _ _ (rests c.before)).0))))
     (λ c κs. tt)
-    (λ c. omega (arith, c.before.before.before.skip-idle.ensures))
+    (λ c. omega (arith, c.before.before.before.skip_idle.ensures))
     loop-again
     (λ c κs. search rules)
     (λ c κs. omega (arith, lies c, (start c.before.before.before.before.before.before).pre))
-    (λ c. omega (arith, c.before.sought-at.ensures, c.before.before.before.before.before.before.before.before.before.before.before.before.before.requires))
+    (λ c. omega (arith, c.before.sought_at.ensures, c.before.before.before.before.before.before.before.before.before.before.before.before.before.requires))
     (λ c κs. tt)
     (λ c κs. let i = c.before.before.before.before in omega (arith, lies i, room i.before.before.before.before.before.before))
     (λ c. omega (arith, lies c.before.before.before.before.before.before.before, c.before.before.before.before.before.before.before.before.before.before.before.before.before.before.before.before.before.before.requires))
     (λ c. omega (arith, lies c.before.before.before.before.before.before.before))
     loop-again-2
     (λ c κs. let r = room c.before.before.before.before.before.before.before in (search rules, (r.given, r.wide)))
-    (λ c. let t = c.before.before.before.before in t.clock-bus.auto.1.1.1.0 ∙ t.before.before.before.before.before.before.before.before.loop.invariant.1.size)
+    (λ c. let t = c.before.before.before.before in t.clock_bus.auto.1.1.1.0 ∙ t.before.before.before.before.before.before.before.before.loop.invariant.1.size)
     returns
     loop-less-3
     loop-again-3

@@ -42,10 +42,10 @@ loop-again : tie.Need-loop-preserved invariant-loop decreases-loop
 loop-again c =
     let t = c.before.before.before.before.before in
     let w = t.before.before.before.before in
-    let x = t.run-stretch.ensures in
+    let x = t.run_stretch.ensures in
     let m = w.loop.invariant in
     let q = x.simulates in
-    (x.within, omega (arith, t.run-stretch.auto.1.0, m.1), q.kept m.2, simulates_on m.3 q)
+    (x.within, omega (arith, t.run_stretch.auto.1.0, m.1), q.kept m.2, simulates_on m.3 q)
 
 returns : tie.Need-returns invariant-loop decreases-loop
 returns c =
@@ -65,7 +65,7 @@ run_samples_spec =
     decreases-loop
     (λ c. (omega arith, refl, c.before.before.before.requires.0, stays _ _ _ _))
     run-stretch-requires
-    (λ c. let x = c.before.before.before.before.before.run-stretch.ensures in omega (arith, x.further, x.within))
+    (λ c. let x = c.before.before.before.before.before.run_stretch.ensures in omega (arith, x.further, x.within))
     loop-again
     (λ c. c.before.loop.invariant.1)
     (λ c. c.before.loop.invariant.3.size)

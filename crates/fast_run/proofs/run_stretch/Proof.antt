@@ -17,30 +17,30 @@ place-before-due-requires c κs =
 run-bus-alone-requires : tie.Need-run-bus-alone-requires
 run-bus-alone-requires c κs =
     let z = c.before.before.before.before.before.before.before in
-    let q = c.place-before-due.ensures in
-    (room_less c.place-before-due.result z.requires.0 q.1, (q.0, q.2))
+    let q = c.place_before_due.ensures in
+    (room_less c.place_before_due.result z.requires.0 q.1, (q.0, q.2))
 
 stretch-on-requires : tie.Need-stretch-on-requires
 stretch-on-requires c κs =
     let g = c.before.before.before.before.before.before in
     let z = g.before.before.before.before.before.before.before.before in
-    let o = g.run-bus-alone.ensures.1 in
+    let o = g.run_bus_alone.ensures.1 in
     (room_later z.requires.0 o.size, (omega arith, (omega arith, o.kept z.requires.0.sound)))
 
 returns : tie.Need-returns
 returns c =
     let t = c.before.before.before.before in
-    stretched_on t.before.before.before.before.before.before.before.run-bus-alone.ensures.1 t.stretch-on.ensures
+    stretched_on t.before.before.before.before.before.before.before.run_bus_alone.ensures.1 t.stretch_on.ensures
 
 returns-2 : tie.Need-returns-2
 returns-2 c =
     let g = c.before.before.before.before.before.before.before.before in
     let z = g.before.before.before.before.before.before.before.before in
-    let q = c.before.before.device-later.ensures in
-    let b = g.run-bus-alone.ensures in
+    let q = c.before.before.device_later.ensures in
+    let b = g.run_bus_alone.ensures in
     record {
       further = omega (arith, z.requires);
-      within = omega (arith, b.0, g.before.place-before-due.ensures);
+      within = omega (arith, b.0, g.before.place_before_due.ensures);
       simulates = rw (q.0, q.1) b.1;
     }
 
@@ -53,10 +53,10 @@ run_stretch_spec =
     (λ c. search rules)
     (λ c. search rules)
     stretch-on-requires
-    (λ c. c.before.before.before.before.stretch-on.auto.1.0)
-    (λ c. c.before.before.before.before.stretch-on.auto.1.1.1.0 ∙ c.before.before.before.before.before.before.before.before.before.before.before.run-bus-alone.auto.1.1.1.0)
+    (λ c. c.before.before.before.before.stretch_on.auto.1.0)
+    (λ c. c.before.before.before.before.stretch_on.auto.1.1.1.0 ∙ c.before.before.before.before.before.before.before.before.before.before.before.run_bus_alone.auto.1.1.1.0)
     returns
     (λ c κs. search rules)
-    (λ c. c.before.before.device-later.auto.1.0)
-    (λ c. c.before.before.before.before.before.before.before.before.run-bus-alone.auto.1.1.1.0)
+    (λ c. c.before.before.device_later.auto.1.0)
+    (λ c. c.before.before.before.before.before.before.before.before.run_bus_alone.auto.1.1.1.0)
     returns-2)

@@ -5,8 +5,8 @@ use Rattle.fast_run.proofs.sought_at.Tie as tie
 
 returns : tie.Need-returns
 returns c =
-    let a = c.before.before.address-at.ensures in
-    (a, rw a at c.before.array-address.ensures, c.sample-at.ensures)
+    let a = c.before.before.address_at.ensures in
+    (a, rw a at c.before.array_address.ensures, c.sample_at.ensures)
 
 pub sought_at_spec : {M : Type 1} → statement M
 sought_at_spec =

@@ -9,7 +9,7 @@ use Rattle.fast_run.proofs.stretch_clock.Tie as tie
 returns : tie.Need-returns
 returns c =
     let a = c.before.before.before in
-    let t = rw a.before.sample-at.ensures at a.clock-device.ensures in
+    let t = rw a.before.sample_at.ensures at a.clock_device.ensures in
     record {
       further = omega arith;
       within = omega arith;
@@ -24,6 +24,6 @@ stretch_clock_spec =
     (λ c κs. search rules)
     (λ c. search rules)
     (λ c. search rules)
-    (λ c. c.before.before.before.clock-device.auto.1.0)
+    (λ c. c.before.before.before.clock_device.auto.1.0)
     (λ c. search rules)
     returns)

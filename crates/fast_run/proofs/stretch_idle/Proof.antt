@@ -9,8 +9,8 @@ returns : tie.Need-returns
 returns c =
     let x = c.before.before.before.before.before.before.before in
     let z = x.before.before.before.before.before in
-    let q = x.skip-idle.ensures in
-    let t = c.before.before.device-later.ensures in
+    let q = x.skip_idle.ensures in
+    let t = c.before.before.device_later.ensures in
     record {
       further = q.0;
       within = q.1;
@@ -27,6 +27,6 @@ stretch_idle_spec =
     (λ c. search rules)
     (λ c. search rules)
     (λ c κs. search rules)
-    (λ c. c.before.before.device-later.auto.1.0)
-    (λ c. c.before.before.before.before.before.before.before.skip-idle.auto.1.0)
+    (λ c. c.before.before.device_later.auto.1.0)
+    (λ c. c.before.before.before.before.before.before.before.skip_idle.auto.1.0)
     returns)

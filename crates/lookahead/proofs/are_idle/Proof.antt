@@ -45,7 +45,7 @@ loop-again c =
     let i = w.loop.i in
     let e : a.count - i ≡ a.count - (i + 1) + 1 = omega arith in
     let p : a.from + (i + 1) ≡ a.from + i + 1 = omega arith in
-    (omega arith, rw (c.both.ensures, c.before.is-idle-sample.ensures, c.before.before.sample-at.ensures, p) (idle_turn a.stream.now (a.from + i) (a.count - (i + 1)) (a.count - i) w.loop.all e) ∙ w.loop.invariant.1)
+    (omega arith, rw (c.both.ensures, c.before.is_idle_sample.ensures, c.before.before.sample_at.ensures, p) (idle_turn a.stream.now (a.from + i) (a.count - (i + 1)) (a.count - i) w.loop.all e) ∙ w.loop.invariant.1)
 
 returns : tie.Need-returns invariant-loop decreases-loop
 returns c =

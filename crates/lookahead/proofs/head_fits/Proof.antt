@@ -15,7 +15,7 @@ head_fits_spec =
     (λ c. search rules)
     (λ c κs. search rules)
     (λ c κs. search rules)
-    (λ c. search (cases, c.is-chosen.ensures, c.before.address-at.ensures, ← c.before.before.before.lines_at.ensures))
+    (λ c. search (cases, c.is_chosen.ensures, c.before.address_at.ensures, ← c.before.before.before.lines_at.ensures))
     (λ c. search (cases, ← c.before.lines_at.ensures))
     (λ c. search rules)
     (λ c κs. search rules)

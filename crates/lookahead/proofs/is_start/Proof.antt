@@ -10,12 +10,12 @@ is_start_spec =
     tie.close
     (tie.spec
     (λ c κs. search rules)
-    (λ c. search (cases, ← c.before.is-reset.ensures))
+    (λ c. search (cases, ← c.before.is_reset.ensures))
     (λ c κs. search rules)
     (λ c κs. search rules)
     (λ c.
     let f = c.before.before in
-    search (cases, c.lines.ensures, ← f.frame-line.ensures, ← f.before.before.is-reset.ensures, f.before.if1.false))
+    search (cases, c.lines.ensures, ← f.frame_line.ensures, ← f.before.before.is_reset.ensures, f.before.if1.false))
     (λ c.
     let f = c.before in
-    search (cases, ← f.frame-line.ensures, ← f.before.before.is-reset.ensures, f.before.if1.false)))
+    search (cases, ← f.frame_line.ensures, ← f.before.before.is_reset.ensures, f.before.if1.false)))

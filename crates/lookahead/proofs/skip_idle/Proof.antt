@@ -15,15 +15,15 @@ returns c =
     let t = c.before.before in
     let e = t.before.before.before.before in
     let w = e.before.before.before.before in
-    let x = e.skip-sixteens.ensures in
-    let y = t.skip-singles.ensures in
+    let x = e.skip_sixteens.ensures in
+    let y = t.skip_singles.ensures in
     let k = skipped_more _ _ _ _ _ _ _ x.0 y.0 (omega (arith, y.1, w.requires.1.1.0)) x.2 y.2 in
-    let m : w.args.from < t.skip-singles.result =
-    elim (ask (ltb w.args.from t.skip-singles.result)) [
-      | yes l ↦ ltb-true w.args.from t.skip-singles.result l
+    let m : w.args.from < t.skip_singles.result =
+    elim (ask (ltb w.args.from t.skip_singles.result)) [
+      | yes l ↦ ltb-true w.args.from t.skip_singles.result l
       | no l ↦
-          let z = ltb-false w.args.from t.skip-singles.result l in
-          let q : t.skip-singles.result ≡ w.args.from = omega (arith, x.0, y.0, z) in
+          let z = ltb-false w.args.from t.skip_singles.result l in
+          let q : t.skip_singles.result ≡ w.args.from = omega (arith, x.0, y.0, z) in
           clash (sym (rw q at y.3 (omega arith)) ∙ w.requires.1.1.1)
     ] in
     (m, y.1, k)

@@ -40,7 +40,7 @@ loop-again c =
     let w = t.before.before.before.before in
     let p = w.before.before.before in
     let m = w.loop.invariant in
-    let e = rw t.before.before.sample-at.ensures at (sym t.before.is-idle-sample.ensures ∙ t.if1.true) in (
+    let e = rw t.before.before.sample_at.ensures at (sym t.before.is_idle_sample.ensures ∙ t.if1.true) in (
       omega (arith, m.0),
       omega (arith, t.before.before.before.loop-test),
       omega (arith, f.fill.auto.0, m.2),
@@ -54,7 +54,7 @@ same_length c = c.before.before.before.before.loop.invariant.2
 returns : tie.Need-returns invariant-loop decreases-loop
 returns c =
     let m = c.before.before.before.before.loop.invariant in
-    let e = rw c.before.before.sample-at.ensures at (sym c.before.is-idle-sample.ensures ∙ c.if1.false) in
+    let e = rw c.before.before.sample_at.ensures at (sym c.before.is_idle_sample.ensures ∙ c.if1.false) in
     (m.0, m.1, m.3, λ h. e)
 
 same_length_2 : tie.Need-same-length-2 invariant-loop decreases-loop

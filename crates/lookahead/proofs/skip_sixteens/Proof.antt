@@ -26,7 +26,7 @@ fill-requires c κs =
     let t = c.before in
     let w = t.before.before in
     let p = w.before.before.before in
-    let h = sixteen _ _ _ (sym t.before.has-sixteen-idle.ensures ∙ t.if1.true) in
+    let h = sixteen _ _ _ (sym t.before.has_sixteen_idle.ensures ∙ t.if1.true) in
     omega (arith, h.0, w.loop.invariant.1, w.loop.invariant.2, p.requires.1.1)
 
 add-k : tie.Need-overflow-add-k invariant-loop decreases-loop
@@ -34,14 +34,14 @@ add-k c =
     let t = c.before.before.before.before in
     let w = t.before.before in
     let p = w.before.before.before in
-    let h = sixteen _ _ _ (sym t.before.has-sixteen-idle.ensures ∙ t.if1.true) in
+    let h = sixteen _ _ _ (sym t.before.has_sixteen_idle.ensures ∙ t.if1.true) in
     omega (arith, h.0, w.loop.invariant.1, p.well-formed)
 
 loop-less : tie.Need-loop-smaller invariant-loop decreases-loop
 loop-less c =
     let t = c.before.before.before.before in
     let w = t.before.before in
-    let h = sixteen _ _ _ (sym t.before.has-sixteen-idle.ensures ∙ t.if1.true) in
+    let h = sixteen _ _ _ (sym t.before.has_sixteen_idle.ensures ∙ t.if1.true) in
     omega (arith, h.0)
 
 loop-again : tie.Need-loop-preserved invariant-loop decreases-loop
@@ -50,7 +50,7 @@ loop-again c =
     let t = f.before.before in
     let w = t.before.before in
     let p = w.before.before.before in
-    let h = sixteen _ _ _ (sym t.before.has-sixteen-idle.ensures ∙ t.if1.true) in
+    let h = sixteen _ _ _ (sym t.before.has_sixteen_idle.ensures ∙ t.if1.true) in
     let m = w.loop.invariant in (
       omega (arith, m.0),
       omega (arith, h.0),

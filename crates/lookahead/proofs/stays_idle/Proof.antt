@@ -11,5 +11,5 @@ stays_idle_spec =
     (tie.spec
     (λ c κs. search rules)
     (λ c κs. search rules)
-    (λ c. search (cases, ← c.before.before.is-idle-sample.ensures, c.is-frame-over.ensures))
-    (λ c. search (cases, ← c.before.is-idle-sample.ensures)))
+    (λ c. search (cases, ← c.before.before.is_idle_sample.ensures, c.is_frame_over.ensures))
+    (λ c. search (cases, ← c.before.is_idle_sample.ensures)))

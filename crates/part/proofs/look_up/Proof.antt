@@ -13,8 +13,8 @@ look_up_spec =
     tie.close
     (tie.spec
     (λ c κs. search rules)
-    (λ c. rw (← c.before.register-base.ensures, lt-ltb _ _ c.if1.true))
+    (λ c. rw (← c.before.register_base.ensures, lt-ltb _ _ c.if1.true))
     (λ c κs. search rules)
     (λ c.
-    rw (← c.before.before.register-base.ensures, le-ltb _ _ c.before.if1.false)
-    (c.register-in.ensures ∙ ruled _ _)))
+    rw (← c.before.before.register_base.ensures, le-ltb _ _ c.before.if1.false)
+    (c.register_in.ensures ∙ ruled _ _)))

@@ -12,5 +12,5 @@ register_base_spec =
     (λ c κs. search rules)
     (λ c. search rules)
     (λ c. search rules)
-    (λ c. search (cases, c.window-of.ensures))
+    (λ c. search (cases, c.window_of.ensures))
     (λ c. search cases))

@@ -16,18 +16,18 @@ judge_spec =
     (λ c κs. search rules)
     (λ c.
     let b = c.before.before in
-    let p = rw b.Block-of.ensures at c.before.is-pin-low.ensures in
+    let p = rw b.Block-of.ensures at c.before.is_pin_low.ensures in
     search (cases, ← b.before.before.voltage.ensures, ← p, c.if2.true))
     (λ c.
     let b = c.before.before.before in
-    let p = rw b.Block-of.ensures at c.before.before.is-pin-low.ensures in
+    let p = rw b.Block-of.ensures at c.before.before.is_pin_low.ensures in
     search (cases, ← b.before.before.voltage.ensures, ← p, c.before.if2.false))
     (λ c κs. search rules)
     (λ c.
     let b = c.before.before.before.before.before in
-    let p = rw b.Block-of.ensures at c.before.before.before.before.is-pin-low.ensures in
-    search (cases, ← b.before.before.voltage.ensures, ← p, c.before.before.before.if2.false, ← c.before.is-into-suspended.ensures, c.if4.true))
+    let p = rw b.Block-of.ensures at c.before.before.before.before.is_pin_low.ensures in
+    search (cases, ← b.before.before.voltage.ensures, ← p, c.before.before.before.if2.false, ← c.before.is_into_suspended.ensures, c.if4.true))
     (λ c.
     let b = c.before.before.before.before.before in
-    let p = rw b.Block-of.ensures at c.before.before.before.before.is-pin-low.ensures in
-    search (cases, ← b.before.before.voltage.ensures, ← p, c.before.before.before.if2.false, ← c.before.is-into-suspended.ensures, c.if4.false)))
+    let p = rw b.Block-of.ensures at c.before.before.before.before.is_pin_low.ensures in
+    search (cases, ← b.before.before.voltage.ensures, ← p, c.before.before.before.if2.false, ← c.before.is_into_suspended.ensures, c.if4.false)))

@@ -13,4 +13,4 @@ refused_spec =
     (tie.spec
     (λ c κs. refl)
     (λ c κs. search rules)
-    (λ c. rw (c.fresh.ensures, c.before.times-of.ensures)))
+    (λ c. rw (c.fresh.ensures, c.before.times_of.ensures)))

@@ -11,6 +11,6 @@ set_times_spec =
     (λ c κs. search rules)
     (λ c κs. search rules)
     (λ c κs. (cc))
-    (λ c. rw (← c.before.before.before.before.sound.ensures, c.before.before.before.if1.true, ← c.before.before.are-times.ensures, c.before.if2.true, c.times-of.ensures))
-    (λ c. rw (← c.before.before.before.sound.ensures, c.before.before.if1.true, ← c.before.are-times.ensures, c.if2.false))
+    (λ c. rw (← c.before.before.before.before.sound.ensures, c.before.before.before.if1.true, ← c.before.before.are_times.ensures, c.before.if2.true, c.times_of.ensures))
+    (λ c. rw (← c.before.before.before.sound.ensures, c.before.before.if1.true, ← c.before.are_times.ensures, c.if2.false))
     (λ c. rw (← c.before.sound.ensures, c.if1.false)))

@@ -10,6 +10,6 @@ is_idle_sample_spec =
     tie.close
     (tie.spec
     (λ c κs. search rules)
-    (λ c. search (cases, ← c.before.is-reset.ensures))
+    (λ c. search (cases, ← c.before.is_reset.ensures))
     (λ c κs. search rules)
-    (λ c. search (cases, ← c.before.before.is-reset.ensures, ← c.frame-line.ensures)))
+    (λ c. search (cases, ← c.before.before.is_reset.ensures, ← c.frame_line.ensures)))

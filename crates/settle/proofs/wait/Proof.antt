@@ -77,7 +77,7 @@ returns-2 c =
     let limit = w.before.before.args.limit in
     let z = w.loop.d in
     let r = waits _ w.before.before.requires.1.1 (limit - w.loop.count) w.loop.count z w.loop.image _ _ _ (parts z w.loop.invariant.2).controller (eq-eqb z.frame.kind 0 t.before.before.if2.true) t.forward.ensures in
-    rw (c.is-ready2.ensures, c.before.before.with-controller.ensures) r ∙ w.loop.invariant.3
+    rw (c.is-ready2.ensures, c.before.before.with_controller.ensures) r ∙ w.loop.invariant.3
 
 clock-device-requires : tie.Need-clock-device-requires invariant-loop decreases-loop
 clock-device-requires c κs =
@@ -98,9 +98,9 @@ loop-again c =
     let limit = w.before.before.args.limit in
     let e : limit - w.loop.count ≡ limit - (w.loop.count + 1) + 1 = omega arith in (
       omega arith,
-      omega (arith, t.clock-device.auto.1.0),
-      rw t.clock-device.ensures.0 (device_clock_sound w.loop.d w.loop.image _ w.loop.invariant.2),
-      goes_on _ (limit - w.loop.count) (limit - (w.loop.count + 1)) w.loop.count w.loop.d w.loop.image _ _ e (sym i.before.is_ready_lem.ensures ∙ i.if1.false) t.clock-device.ensures.0 t.clock-device.ensures.1
+      omega (arith, t.clock_device.auto.1.0),
+      rw t.clock_device.ensures.0 (device_clock_sound w.loop.d w.loop.image _ w.loop.invariant.2),
+      goes_on _ (limit - w.loop.count) (limit - (w.loop.count + 1)) w.loop.count w.loop.d w.loop.image _ _ e (sym i.before.is_ready_lem.ensures ∙ i.if1.false) t.clock_device.ensures.0 t.clock_device.ensures.1
           ∙ w.loop.invariant.3,
     )
 

@@ -11,7 +11,7 @@ frame_fits_spec =
     (tie.spec
     (λ c. search cases)
     (λ c κs. search rules)
-    (λ c. search (cases, c.stage-fits.ensures))
+    (λ c. search (cases, c.stage_fits.ensures))
     (λ c κs. search rules)
     (λ c. search (cases, c.stage-fits2.ensures))
     (λ c κs. search rules)

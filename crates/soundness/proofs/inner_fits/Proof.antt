@@ -11,4 +11,4 @@ inner_fits_spec =
     (tie.spec
     (λ c. search cases)
     (λ c κs. search rules)
-    (λ c. search (cases, c.is-inside.ensures)))
+    (λ c. search (cases, c.is_inside.ensures)))

@@ -16,4 +16,4 @@ is_inside_spec =
     (λ c κs. search rules)
     (λ c κs. search rules)
     (λ c κs. search rules)
-    (λ c. rw (c.both5.ensures, c.before.both4.ensures, c.before.before.both3.ensures, c.before.before.before.both2.ensures, c.before.before.before.before.both.ensures, c.before.before.before.before.before.operation-fits.ensures, c.before.before.before.before.before.before.is-apart.ensures)))
+    (λ c. rw (c.both5.ensures, c.before.both4.ensures, c.before.before.both3.ensures, c.before.before.before.both2.ensures, c.before.before.before.before.both.ensures, c.before.before.before.before.before.operation_fits.ensures, c.before.before.before.before.before.before.is_apart.ensures)))

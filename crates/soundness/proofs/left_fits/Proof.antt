@@ -11,7 +11,7 @@ left_fits_spec =
     tie.close
     (tie.spec
     (λ c κs. search rules)
-    (λ c. search (cases, c.is-counted.ensures))
+    (λ c. search (cases, c.is_counted.ensures))
     (λ c κs. search rules)
     (λ c κs. search rules)
     (λ c κs. search rules)

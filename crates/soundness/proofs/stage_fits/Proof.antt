@@ -14,4 +14,4 @@ stage_fits_spec =
     (λ c κs. search rules)
     (λ c κs. search rules)
     (λ c κs. search rules)
-    (λ c. rw (c.both2.ensures, c.before.both.ensures, c.before.before.address-limit.ensures, c.before.before.before.before.before.before.Known-from.ensures)))
+    (λ c. rw (c.both2.ensures, c.before.both.ensures, c.before.before.address_limit.ensures, c.before.before.before.before.before.before.Known-from.ensures)))

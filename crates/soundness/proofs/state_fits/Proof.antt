@@ -11,5 +11,5 @@ state_fits_spec =
     (tie.spec
     (λ c. search cases)
     (λ c κs. search rules)
-    (λ c. search (cases, c.is-counted.ensures))
+    (λ c. search (cases, c.is_counted.ensures))
     (λ c. search cases))

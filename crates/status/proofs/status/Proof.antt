@@ -10,4 +10,4 @@ status_spec =
     (tie.spec
     (λ c κs. search rules)
     (λ c κs. search rules)
-    (λ c. rw (c.before.condition-bits.ensures, c.before.before.condition-of.ensures)))
+    (λ c. rw (c.before.condition_bits.ensures, c.before.before.condition_of.ensures)))

@@ -23,7 +23,7 @@ step_spec =
     (rw n, rw n))
     (λ c κs. let i = c.before.before.before in (sym i.before.before.sound.ensures ∙ i.before.if1.true, i.if2.true))
     (λ c. search rules)
-    (λ c. omega (arith, c.before.before.before.before.clock-device.auto.1.0))
+    (λ c. omega (arith, c.before.before.before.before.clock_device.auto.1.0))
     (λ c.
     let a = c.before.before.before.before in
     let l = a.before.before in
@@ -32,7 +32,7 @@ step_spec =
     let s = i.before.before in
     let z = s.before.before in
     let n = accepted z.args.device z.args.image.now z.args.sample (sym s.sound.ensures ∙ i.before.if1.true) i.if2.true (rw v.voltage.ensures at l.if3.false) in
-    (rw (n, a.clock-device.ensures.0), rw (n, a.clock-device.ensures.1)))
+    (rw (n, a.clock_device.ensures.0), rw (n, a.clock_device.ensures.1)))
     (λ c.
     let s = c.before.before in
     let z = s.before.before in

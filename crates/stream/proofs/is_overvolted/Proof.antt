@@ -41,7 +41,7 @@ loop-again : tie.Need-loop-preserved invariant-loop decreases-loop
 loop-again c =
     let w = c.before.before.before.before in
     let s = w.before.before.args.stream.now in
-    (omega arith, rw (c.either.ensures, c.before.voltage.ensures, c.before.before.sample-at.ensures) (over_turn s w.loop.k w.loop.over (omega arith)) ∙ w.loop.invariant.1)
+    (omega arith, rw (c.either.ensures, c.before.voltage.ensures, c.before.before.sample_at.ensures) (over_turn s w.loop.k w.loop.over (omega arith)) ∙ w.loop.invariant.1)
 
 returns : tie.Need-returns invariant-loop decreases-loop
 returns c =

@@ -11,9 +11,9 @@ run_number_spec =
     tie.close
     (tie.spec
     (λ c κs. search rules)
-    (λ c. search (cases, ← c.before.strap-count.ensures))
+    (λ c. search (cases, ← c.before.strap_count.ensures))
     (λ c κs. search rules)
     (λ c κs. search rules)
-    (λ c. let t = c.before.before in search (cases, c.stream-number.ensures, ← t.are-times.ensures, ← t.before.before.strap-count.ensures))
-    (λ c. let t = c.before in search (cases, ← t.are-times.ensures, ← t.before.before.strap-count.ensures))
+    (λ c. let t = c.before.before in search (cases, c.stream_number.ensures, ← t.are_times.ensures, ← t.before.before.strap_count.ensures))
+    (λ c. let t = c.before in search (cases, ← t.are_times.ensures, ← t.before.before.strap_count.ensures))
     (λ c. search cases))

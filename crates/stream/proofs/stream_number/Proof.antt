@@ -14,5 +14,5 @@ stream_number_spec =
     (λ c. search cases)
     (λ c. search cases)
     (λ c κs. search rules)
-    (λ c. search (cases, ← c.before.is-overvolted.ensures, c.if4.true))
-    (λ c. search (cases, ← c.before.is-overvolted.ensures, c.if4.false)))
+    (λ c. search (cases, ← c.before.is_overvolted.ensures, c.if4.true))
+    (λ c. search (cases, ← c.before.is_overvolted.ensures, c.if4.false)))

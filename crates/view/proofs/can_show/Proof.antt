@@ -12,7 +12,7 @@ can_show_spec =
     (tie.spec
     (λ c κs. search rules)
     (λ c κs. search rules)
-    (λ c. let w = c.before.before.before in search (cases, c.is-zeros.ensures, ← w.before.sound.ensures, w.if1.true))
+    (λ c. let w = c.before.before.before in search (cases, c.is_zeros.ensures, ← w.before.sound.ensures, w.if1.true))
     (λ c. let w = c.before.before in search (cases, ← w.before.sound.ensures, w.if1.true))
     (λ c. let w = c.before in search (cases, ← w.before.sound.ensures, w.if1.true))
     (λ c. search (cases, ← c.before.sound.ensures)))

@@ -12,5 +12,5 @@ is_zeros_spec =
     (tie.spec
     (λ c. search rules)
     (λ c κs. search rules)
-    (λ c. search (cases, c.all-zero.ensures))
+    (λ c. search (cases, c.all_zero.ensures))
     (λ c. search cases))

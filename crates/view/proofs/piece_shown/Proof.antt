@@ -13,8 +13,8 @@ piece_shown_spec =
     tie.close
     (tie.spec
     (λ c κs. search rules)
-    (λ c κs. let g = told _ _ _ _ _ c.before.can-show.ensures c.if1.true in omega arith)
-    (λ c. let t = c.before in let w = t.before in search (cases, ← t.read-locked.ensures, c.if2.true, ← w.before.can-show.ensures, w.if1.true))
-    (λ c. let w = c.before.before in let g = told _ _ _ _ _ w.before.can-show.ensures w.if1.true in omega arith)
-    (λ c. let t = c.before in let w = t.before in search (cases, ← t.read-locked.ensures, c.if2.false, ← w.before.can-show.ensures, w.if1.true))
-    (λ c. search (cases, ← c.before.can-show.ensures)))
+    (λ c κs. let g = told _ _ _ _ _ c.before.can_show.ensures c.if1.true in omega arith)
+    (λ c. let t = c.before in let w = t.before in search (cases, ← t.read_locked.ensures, c.if2.true, ← w.before.can_show.ensures, w.if1.true))
+    (λ c. let w = c.before.before in let g = told _ _ _ _ _ w.before.can_show.ensures w.if1.true in omega arith)
+    (λ c. let t = c.before in let w = t.before in search (cases, ← t.read_locked.ensures, c.if2.false, ← w.before.can_show.ensures, w.if1.true))
+    (λ c. search (cases, ← c.before.can_show.ensures)))
