@@ -91,7 +91,7 @@ pub fn value(d: Device, sample: u16, address: u32, byte: u8) -> u8
 }
 
 // The device after a write, and whether a permission was judged.
-#[derive(Drop)]
+#[derive(Clone, Copy)]
 pub struct Reached {
     pub device: Device,
     pub verdict: Verdict,

@@ -177,7 +177,7 @@ pub fn clock_frame(part: u8, straps: u8, f: Frame, sample: u16) -> Frame
 }
 
 // What a frame asks on the clock that it has come to.
-#[derive(Drop)]
+#[derive(Clone, Copy)]
 pub enum Asked {
     Nothing,
     // The value at an address, fixed now.

@@ -15,7 +15,7 @@ use record::{Device, frame_line, idle_frame, is_reset};
 
 // What happened on a clock, beside the device: the effect on the array, the judgement that was made, and whether an
 // operation finished or was cut off. Which one it was is read off the device before it.
-#[derive(Drop)]
+#[derive(Clone, Copy)]
 pub struct Happened {
     pub effect: Effect,
     pub verdict: Verdict,
@@ -23,7 +23,7 @@ pub struct Happened {
     pub cut: bool,
 }
 
-#[derive(Drop)]
+#[derive(Clone, Copy)]
 pub struct DeviceClocked {
     pub device: Device,
     pub answer: u8,

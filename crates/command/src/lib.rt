@@ -12,7 +12,7 @@ use status::{Condition, condition_of};
 use units::{Clocks, Times, in_clocks};
 
 // The actions of the command table: A, S, G, C, P, E, Z, R and none.
-#[derive(Drop)]
+#[derive(Clone, Copy)]
 pub enum Action {
     Array,
     Status,
@@ -264,13 +264,13 @@ fn is_unconfirmed(setup: u8, byte: u8) -> bool
 }
 
 // Whether a write judged a permission, and what came of it.
-#[derive(Drop)]
+#[derive(Clone, Copy)]
 pub enum Verdict {
     Unjudged,
     Judged(Judgement),
 }
 
-#[derive(Drop)]
+#[derive(Clone, Copy)]
 pub struct Written {
     pub controller: Controller,
     pub verdict: Verdict,

@@ -6,7 +6,7 @@ ghost use Rattle.effect.specs.Effect.{FitsIn, applied};
 
 use basics::fill;
 
-#[derive(Drop)]
+#[derive(Clone, Copy)]
 pub enum Effect {
     // The array stays as it is.
     Nothing,

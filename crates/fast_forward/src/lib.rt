@@ -11,7 +11,7 @@ use record::{Controller, Operation};
 use units::Clocks;
 
 // How many clocks were done, and the controller after them.
-#[derive(Drop)]
+#[derive(Clone, Copy)]
 pub struct Forwarded {
     pub count: u32,
     pub controller: Controller,

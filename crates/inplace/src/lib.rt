@@ -9,7 +9,7 @@ use step::step;
 
 // The numbered answer of a step and its answer byte; the next device stands where the last one stood.
 #[repr(C)]
-#[derive(Drop)]
+#[derive(Clone, Copy)]
 pub struct Clocked {
     pub number: u32,
     pub answer: u32,

@@ -31,7 +31,7 @@ fn unmark(marks: u16, block: u32) -> u16
 }
 
 // An operation after a clock, what the clock did to the array, and whether the operation finished.
-#[derive(Drop)]
+#[derive(Clone, Copy)]
 pub struct OperationClocked {
     pub operation: Operation,
     pub effect: Effect,
@@ -39,7 +39,7 @@ pub struct OperationClocked {
 }
 
 // The controller after a clock, likewise.
-#[derive(Drop)]
+#[derive(Clone, Copy)]
 pub struct ControllerClocked {
     pub controller: Controller,
     pub effect: Effect,

@@ -152,7 +152,7 @@ pub fn block_of(address: u32) -> u32
 }
 
 // What stands at an address of the register space.
-#[derive(Drop)]
+#[derive(Clone, Copy)]
 pub enum Register {
     Lock(u8),
     Inputs,
@@ -203,6 +203,7 @@ fn register_in(part: u8, offset: u32) -> Register
 }
 
 // The register at an address, `Missing` where the part has none.
+#[tactic(auto, using(crate::proofs::Lookup::ruled), unfolding(crate::specs::Registers::register_at))]
 pub fn look_up(part: u8, straps: u8, address: u32) -> Register
     ensures { result ≡ register_at part straps address }
 {

@@ -8,7 +8,7 @@ use part::{Part, block_of};
 use record::{Operation, tbl, voltage, wp};
 
 // Why an operation may not start, or that it may.
-#[derive(Drop)]
+#[derive(Clone, Copy)]
 pub enum Judgement {
     Granted,
     Voltage,

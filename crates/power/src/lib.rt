@@ -13,7 +13,7 @@ use units::{are_times, times_of};
 
 // A number and the device that goes with it.
 #[repr(C)]
-#[derive(Drop)]
+#[derive(Clone, Copy)]
 pub struct Powered {
     pub number: u32,
     pub device: Device,

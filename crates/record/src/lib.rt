@@ -11,7 +11,7 @@ use units::{Clocks, Micros, Times};
 
 // The frame in progress: which kind, the last clock of it that is done, the byte and the address as far as they are known.
 #[repr(C)]
-#[derive(Drop)]
+#[derive(Clone, Copy)]
 pub struct Frame {
     pub kind: u8,
     pub clock: u8,
@@ -21,7 +21,7 @@ pub struct Frame {
 
 // An operation, with its own copy of the times as they stood when it was accepted.
 #[repr(C)]
-#[derive(Drop)]
+#[derive(Clone, Copy)]
 pub struct Operation {
     pub kind: u8,
     pub state: u8,
@@ -35,7 +35,7 @@ pub struct Operation {
 
 // All that a command or a clock of an operation can change. Neither pins nor locks are in it.
 #[repr(C)]
-#[derive(Drop)]
+#[derive(Clone, Copy)]
 pub struct Controller {
     pub mode: u8,
     pub errors: u8,
@@ -46,7 +46,7 @@ pub struct Controller {
 }
 
 #[repr(C)]
-#[derive(Drop)]
+#[derive(Clone, Copy)]
 pub struct Device {
     pub straps: u8,
     pub locks: [u8; 16],

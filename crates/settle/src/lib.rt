@@ -17,7 +17,7 @@ use status::status;
 
 // The numbered answer of a settle, how many samples were done, and the device after them.
 #[repr(C)]
-#[derive(Drop)]
+#[derive(Clone, Copy)]
 pub struct Settled {
     pub number: u32,
     pub count: u32,

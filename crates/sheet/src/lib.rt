@@ -9,7 +9,7 @@ use basics::two_at;
 use units::{Micros, Times, are_times, times_fit, times_of};
 
 // What some bytes are as a sheet.
-#[derive(Drop)]
+#[derive(Clone, Copy)]
 pub enum Reading {
     Holds { straps: u8, times: Times },
     BadLayout,
@@ -19,7 +19,7 @@ pub enum Reading {
 
 // The numbered answer of a reading, with the values or zeros.
 #[repr(C)]
-#[derive(Drop)]
+#[derive(Clone, Copy)]
 pub struct Sheet {
     pub number: u32,
     pub straps: u32,

@@ -7,7 +7,7 @@ ghost use Rattle.status.specs.Status.{condition_of, condition_bits, status_of};
 use record::Controller;
 
 // What the controller is at: the rows of the command table.
-#[derive(Drop)]
+#[derive(Clone, Copy)]
 pub enum Condition {
     Ready,
     Running,
@@ -52,6 +52,7 @@ fn condition_bits(c: Condition) -> u8
 }
 
 // The status register.
+#[tactic(auto, unfolding(crate::specs::Status::status_of))]
 pub fn status(c: Controller) -> u8
     ensures { result ≡ status_of c }
 {

@@ -10,7 +10,7 @@ use soundness::sound;
 
 // The numbered answer of a step, its answer byte and the next device.
 #[repr(C)]
-#[derive(Drop)]
+#[derive(Clone, Copy)]
 pub struct Stepped {
     pub number: u32,
     pub answer: u32,

@@ -14,7 +14,7 @@ use units::{are_times, times_of};
 
 // The numbered answer of a run, samples done, the status register and the spoiled marks.
 #[repr(C)]
-#[derive(Drop)]
+#[derive(Clone, Copy)]
 pub struct Report {
     pub number: u32,
     pub samples: u32,

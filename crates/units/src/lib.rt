@@ -6,16 +6,16 @@ ghost use Rattle.units.specs.Units.{times, in_clocks, in_range, times_fit};
 
 // Sixteen bits hold the longest time, 39,062, and the clocks of any sixteen bits fit in thirty-two.
 #[repr(C)]
-#[derive(Drop)]
+#[derive(Clone, Copy)]
 pub struct Micros(pub u16);
 
 #[repr(C)]
-#[derive(Drop)]
+#[derive(Clone, Copy)]
 pub struct Clocks(pub u32);
 
 // The times of a program, of one slice of an erase, and of a pause.
 #[repr(C)]
-#[derive(Drop)]
+#[derive(Clone, Copy)]
 pub struct Times {
     pub program: Micros,
     pub slice: Micros,

@@ -10,7 +10,7 @@ use soundness::sound;
 
 // Which lent slice is shown (0 the page's empty front, 1 the image, 2 the page), from where, and how much of it.
 #[repr(C)]
-#[derive(Drop)]
+#[derive(Clone, Copy)]
 pub struct Piece {
     pub from: u32,
     pub start: u32,
