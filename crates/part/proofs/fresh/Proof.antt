@@ -9,8 +9,8 @@ fresh_spec =
     tie.close
     (tie.spec
     (λ c κs. search rules)
-    (λ c. rw c.before.if1.true c.fresh.ensures)
+    (λ c. rw c.before.if-part-eq1.true c.fresh.ensures)
     (λ c κs. search rules)
     (λ c.
-    let z : c.before.before.args.part ≡ 0 = omega (arith, c.before.if1.false) in
-    rw z c.fresh2.ensures))
+    let z : c.before.before.args.part ≡ 0 = omega (arith, c.before.if-part-eq1.false) in
+    rw z c.fresh-2.ensures))

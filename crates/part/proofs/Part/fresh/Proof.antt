@@ -5,4 +5,4 @@ use Rattle.part.proofs.Part.fresh.Tie as tie
 
 pub fresh_spec : {M : Type 1} → statement M
 unfolding fresh_of
-fresh_spec = tie.close (tie.spec (λ c κs. search rules) (λ c κs. search rules) (λ c. rw (c.resting.ensures, c.before.idle_frame.ensures)))
+fresh_spec = tie.close (tie.spec (λ c κs. search rules) (λ c κs. search rules) (λ c. rw (c.resting-controller.ensures, c.before.idle_frame-frame.ensures)))
