@@ -12,25 +12,25 @@ returns c =
     let i = m.before in
     let x = i.before in
     c.are_idle.ensures
-    ∙ whole_head _ _ _ _ _ _ _ (rw (x.before.start_of_lem.ensures, x.before.before.sample_at.ensures) at (sym x.is_start.ensures ∙ i.if1.true)) m.if2.true (sym h.before.head_fits.ensures ∙ h.if3.true)
+    ∙ whole_head _ _ _ _ _ _ _ (rw (x.before.start_of.ensures, x.before.before.sample_at.ensures) at (sym x.is_start.ensures ∙ i.if1.true)) m.if2.true (sym h.before.head_fits.ensures ∙ h.if3.true)
 
 returns-2 : tie.Need-returns-2
 returns-2 c =
     let m = c.before.before in
     let i = m.before in
     let x = i.before in
-    whole_other _ _ _ _ _ _ _ (rw (x.before.start_of_lem.ensures, x.before.before.sample_at.ensures) at (sym x.is_start.ensures ∙ i.if1.true)) m.if2.true (sym c.before.head_fits.ensures ∙ c.if3.false)
+    whole_other _ _ _ _ _ _ _ (rw (x.before.start_of.ensures, x.before.before.sample_at.ensures) at (sym x.is_start.ensures ∙ i.if1.true)) m.if2.true (sym c.before.head_fits.ensures ∙ c.if3.false)
 
 returns-3 : tie.Need-returns-3
 returns-3 c =
     let i = c.before in
     let x = i.before in
-    whole_cut _ _ _ _ _ _ _ (rw (x.before.start_of_lem.ensures, x.before.before.sample_at.ensures) at (sym x.is_start.ensures ∙ i.if1.true)) c.if2.false
+    whole_cut _ _ _ _ _ _ _ (rw (x.before.start_of.ensures, x.before.before.sample_at.ensures) at (sym x.is_start.ensures ∙ i.if1.true)) c.if2.false
 
 returns-4 : tie.Need-returns-4
 returns-4 c =
     let x = c.before in
-    whole_not_begun _ _ _ _ _ _ _ (rw (x.before.start_of_lem.ensures, x.before.before.sample_at.ensures) at (sym x.is_start.ensures ∙ c.if1.false))
+    whole_not_begun _ _ _ _ _ _ _ (rw (x.before.start_of.ensures, x.before.before.sample_at.ensures) at (sym x.is_start.ensures ∙ c.if1.false))
 
 pub is_whole_frame_spec : {M : Type 1} → statement M
 is_whole_frame_spec =

@@ -15,4 +15,4 @@ frame_fits_spec =
     (λ c κs. search rules)
     (λ c. search (cases, c.stage-fits2.ensures))
     (λ c κs. search rules)
-    (λ c. search (cases, c.begun_fits_lem.ensures)))
+    (λ c. search (cases, c.begun_fits.ensures)))

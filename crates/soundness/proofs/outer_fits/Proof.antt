@@ -1,16 +1,16 @@
 use borrow.Author.Rules.{rules}
 use Rattle.basics.proofs.Rules.{cases}
 use Rattle.basics.specs.All.{all}
-use Rattle.soundness.specs.Sound.{outerFits}
+use Rattle.soundness.specs.Sound.{outer_fits}
 use Rattle.soundness.proofs.outer_fits.Statement.{statement}
 use Rattle.soundness.proofs.outer_fits.Tie as tie
 
 pub outer-fits-spec : {M : Type 1} → statement M
-unfolding outerFits all
+unfolding outer_fits all
 outer-fits-spec =
     tie.close
     (tie.spec
     (λ c. search cases)
     (λ c κs. search rules)
     (λ c κs. search rules)
-    (λ c. search (cases, c.both.ensures, c.before.operation-fits.ensures)))
+    (λ c. search (cases, c.both.ensures, c.before.operation_fits.ensures)))

@@ -20,4 +20,4 @@ sound_spec =
     (λ c κs. search rules)
     (λ c κs. search rules)
     (λ c κs. search rules)
-    (λ c. rw (c.both4.ensures, c.before.both3.ensures, c.before.before.both2.ensures, c.before.before.before.both.ensures, c.before.before.before.before.controller_fits.ensures, c.before.before.before.before.before.frame_fits.ensures, c.before.before.before.before.before.before.times_fit_lem.ensures, c.before.before.before.before.before.before.before.all_below.ensures, c.before.before.before.before.before.before.before.before.strap_count.ensures)))
+    (λ c. rw (c.both4.ensures, c.before.both3.ensures, c.before.before.both2.ensures, c.before.before.before.both.ensures, c.before.before.before.before.controller_fits.ensures, c.before.before.before.before.before.frame_fits.ensures, c.before.before.before.before.before.before.times_fit.ensures, c.before.before.before.before.before.before.before.all_below.ensures, c.before.before.before.before.before.before.before.before.strap_count.ensures)))

@@ -10,35 +10,35 @@ use Rattle.view.proofs.Zeros.{stops, goes_on}
 use Rattle.view.proofs.all_zero.Statement.{statement}
 use Rattle.view.proofs.all_zero.Tie as tie
 
-abbrev invariant-loop : tie.invariant-loop
-invariant-loop bytes i₀ i = (i ≤ length bytes) × (all_zero (drop i bytes) ≡ all_zero bytes)
+abbrev invariant-loop-i : tie.invariant-loop-i
+invariant-loop-i bytes i₀ i = (i ≤ length bytes) × (all_zero (drop i bytes) ≡ all_zero bytes)
 
-abbrev decreases-loop : tie.decreases-loop
-decreases-loop bytes i₀ i = length bytes - i
+abbrev decreases-loop-i : tie.decreases-loop-i
+decreases-loop-i bytes i₀ i = length bytes - i
 
-returns : tie.Need-returns invariant-loop decreases-loop
+returns : tie.Need-returns invariant-loop-i decreases-loop-i
 returns c =
     let w = c.before.before.before in
-    sym (stops w.before.args.bytes.now w.loop.i (search rules) c.if1.true) ∙ w.loop.invariant.1
+    sym (stops w.before.args.bytes.now w.loop-i.i (search rules) c.if1.true) ∙ w.loop-i.invariant.1
 
-loop-again : tie.Need-loop-preserved invariant-loop decreases-loop
+loop-again : tie.Need-loop-i-preserved invariant-loop-i decreases-loop-i
 loop-again c =
     let w = c.before.before.before in (
       omega arith,
-      sym (goes_on w.before.args.bytes.now w.loop.i (search rules) c.if1.false) ∙ w.loop.invariant.1,
+      sym (goes_on w.before.args.bytes.now w.loop-i.i (search rules) c.if1.false) ∙ w.loop-i.invariant.1,
     )
 
-returns-2 : tie.Need-returns-2 invariant-loop decreases-loop
+returns-2 : tie.Need-returns-2 invariant-loop-i decreases-loop-i
 returns-2 c =
-    let e : c.before.loop.i ≡ length c.before.before.args.bytes.now = omega arith in
-    rw (e, drop-length) at c.before.loop.invariant.1
+    let e : c.before.loop-i.i ≡ length c.before.before.args.bytes.now = omega arith in
+    rw (e, drop-length) at c.before.loop-i.invariant.1
 
 pub all_zero_spec : {M : Type 1} → statement M
 all_zero_spec =
     tie.close
     (tie.spec
-    invariant-loop
-    decreases-loop
+    invariant-loop-i
+    decreases-loop-i
     (λ c. search rules)
     (λ c. search rules)
     returns
