@@ -67,10 +67,10 @@ ifdef QUICK
 $(POD_LIB):
 	@echo "expected a library at $@, found none: make lib builds it" >&2; exit 1
 else
-# The step in place stands in a room of its own, whose archive holds its export; the two are made one.
-$(POD_LIB): crates.txt $(shell find crates -name '*.rt' -o -name '*.antt') | setup
-	@tools/rooms lib inplace pod
-	@cd $(@D) && $(AR) x libinplace.a && $(AR) rcs libpod.a inplace.o && rm -f inplace.o
+# The room pod exports every call. rt leaves its archive among what it keeps of the room, and takes it away with the next
+# rt ci, so programs link a copy. OF_CI: right behind rt ci, over what that has proved.
+$(POD_LIB): crates.txt $(shell find $(wildcard crates/*/src crates/*/specs crates/*/proofs) -name '*.rt' -o -name '*.antt') | setup
+	@tools/rooms lib $@ $(if $(OF_CI),--of-ci)
 endif
 
 # ---- The host's programs: what is under host/, folder by folder.
@@ -146,8 +146,8 @@ fuzz-host: checked
 bench: build/speed build/traces
 	@$< --machine '$(MACHINE)' --flags '$(CFLAGS)' build/traces
 	@printf '\n## How the time of rt ci divides among the crates\n\n'
-	@if [ -f build/log/rt-ci ]; then tools/shares build/log/rt-ci; else \
-	    echo 'No log of rt ci is here: make test writes one, build/log/rt-ci.'; fi
+	@if [ -f build/log/rooms ]; then tools/shares build/log/rooms; else \
+	    echo 'No log of rt ci is here: make test writes one, build/log/rooms.'; fi
 
 flashrom: build/bay build/lay build/poke
 	@host/bay/test/flashrom.sh all
@@ -160,4 +160,4 @@ flags:
 	@echo -std=c11 $(CPPFLAGS)
 
 clean:
-	rm -rf build target
+	rm -rf build target crates/*/out
