@@ -23,6 +23,6 @@ act_spec =
     (λ c. rw c.enum-told4.given.1)
     (λ c. rw c.enum-told5.given.1)
     (λ c. rw c.enum-told6.given.1)
-    (λ c. rw (c.before.before.before.before.enum-told7.given.1, c.in_clocks.ensures))
+    (λ c. rw (c.before.before.before.before.enum-told7.given.1, c.in_clocks-full.ensures))
     (λ c. rw c.before.enum-told8.given.1)
     (λ c. rw c.enum-told9.given.1))

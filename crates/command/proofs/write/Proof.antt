@@ -20,4 +20,4 @@ write_spec =
     (λ c κs. search rules)
     (λ c κs. search rules)
     (λ c κs. search rules)
-    (λ c. rw (c.answer.ensures, c.before.accept.ensures, c.before.before.judge.ensures, ne_eqb c.before.before.before.before.before.before.before.before.args.c.setup 0 c.before.before.before.before.before.before.if1.false, ← c.before.before.before.before.before.is_unconfirmed.ensures, c.before.before.before.before.if2.false)))
+    (λ c. rw (c.answer.ensures, c.before.accept.ensures, c.before.before.judge-j.ensures, ne_eqb c.before.before.before.before.before.before.before.before.args.c.setup 0 c.before.before.before.before.before.before.if1.false, ← c.before.before.before.before.before.is_unconfirmed.ensures, c.before.before.before.before.if2.false)))
