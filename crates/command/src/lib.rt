@@ -108,6 +108,7 @@ fn row(c: Condition) -> usize
     }
 }
 
+#[tactic(auto, using(basics::proofs::Rules::cases), unfolding(crate::specs::Commands::column_of))]
 fn column(byte: u8) -> usize
     ensures { (result ≡ column_of byte) × (result < 9) }
 {

@@ -66,6 +66,7 @@ fn paused(o: Operation) -> Operation
 }
 
 // Where the slice that an erase is at begins.
+#[tactic(auto, using(crate::proofs::Facts::fits, crate::proofs::Facts::slices), unfolding(crate::specs::Clock::slice_at))]
 fn slice_start(o: Operation) -> u32
     requires o_value { operation_fits o ≡ true }
     requires fact { o.kind ≡ 1 → ⊥ }
@@ -146,6 +147,7 @@ pub fn is_still(o: Operation) -> bool
 }
 
 // A finished erase removes its block's mark, and nothing else does.
+#[tactic(auto, using(basics::proofs::Rules::cases, crate::proofs::Facts::fits), unfolding(crate::specs::Clock::marks_after))]
 pub fn marks_after(marks: u16, o: Operation, finished: bool) -> u16
     requires { operation_fits o ≡ true }
     ensures { result ≡ marks_after marks o finished }
@@ -196,6 +198,7 @@ pub fn clock_controller(c: Controller) -> ControllerClocked
     }
 }
 
+#[tactic(auto, using(basics::proofs::Rules::cases), unfolding(crate::specs::Reset::marked_by))]
 fn mark_of(o: Operation, marks: u16) -> u16
     requires { is_absent o ≡ false → o.address < 1048576 }
     ensures { result ≡ marked_by o marks }

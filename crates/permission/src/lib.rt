@@ -26,6 +26,7 @@ fn is_pin_low(sample: u16, block: u32) -> bool
     wp(sample) == 0
 }
 
+#[tactic(auto, using(basics::proofs::Rules::cases), unfolding(crate::specs::Permission::into_suspended))]
 fn is_into_suspended(setup: u8, outer: Operation, address: u32) -> bool
     ensures { result ≡ into_suspended setup outer address }
 {
@@ -42,6 +43,7 @@ fn is_into_suspended(setup: u8, outer: Operation, address: u32) -> bool
 }
 
 // The permission, judged once: by the sample of the write that ends the setup and the lock register of its block.
+#[tactic(auto, using(basics::proofs::Rules::cases), unfolding(crate::specs::Permission::judged))]
 pub fn judge(setup: u8, outer: Operation, sample: u16, lock: u8, address: u32) -> Judgement
     ensures { result ≡ judged setup outer sample lock address }
 {

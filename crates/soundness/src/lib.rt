@@ -11,6 +11,7 @@ use status::{Condition, condition_of};
 use units::{Clocks, Micros, in_clocks, times_fit};
 
 // Whether each of the sixteen numbers is below n.
+#[tactic(auto, using(crate::proofs::Below::stops, crate::proofs::Below::goes_on))]
 fn all_below(n: u8, xs: [u8; 16]) -> bool
     ensures { result ≡ all_below n xs }
 {
@@ -86,6 +87,7 @@ fn outer_fits(o: Operation) -> bool
 }
 
 // Whether two addresses lie in different blocks.
+#[tactic(auto, unfolding(crate::specs::Sound::apart))]
 fn is_apart(a: u32, b: u32) -> bool
     ensures { result ≡ apart a b }
 {
@@ -156,6 +158,7 @@ fn address_limit(part: u8) -> u64
     0x10000000
 }
 
+#[tactic(auto, unfolding(crate::specs::Sound::stage_fits, basics::specs::All::all))]
 fn stage_fits(part: u8, f: Frame, last: u8) -> bool
     ensures { result ≡ stage_fits part f last }
 {
@@ -213,6 +216,7 @@ fn controller_fits(c: Controller) -> bool
 }
 
 // Whether a device is sound: tested where one is handed in, and not on every clock.
+#[tactic(auto, unfolding(crate::specs::Sound::sound_of, basics::specs::All::all))]
 pub fn sound(d: Device) -> bool
     ensures { result ≡ sound_of d }
 {

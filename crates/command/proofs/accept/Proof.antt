@@ -12,4 +12,4 @@ accept_spec =
     (λ c κs. search rules)
     (λ c. search (cases, c.in_clocks.ensures))
     (λ c κs. search rules)
-    (λ c. search (cases, c.in-clocks2.ensures)))
+    (λ c. search (cases, c.in_clocks-2.ensures)))

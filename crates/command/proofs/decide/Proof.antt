@@ -15,4 +15,4 @@ decide_spec =
     (λ c. search rules)
     (λ c. search rules)
     (λ c. search rules)
-    (λ c. at2 action_at 6 9 c.before.before.row.result c.before.column.result _ _ (search rules) (search rules) ∙ rw (c.before.before.row.ensures.0, c.before.column.ensures.0)))
+    (λ c. at2 action_at 6 9 c.before.before.row-r.result c.before.column-k.result _ _ (search rules) (search rules) ∙ rw (c.before.before.row-r.ensures.0, c.before.column-k.ensures.0)))

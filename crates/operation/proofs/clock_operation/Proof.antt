@@ -20,6 +20,6 @@ clock_operation_spec =
     (λ c κs. let s = c.before.before.before.before.before.before.before.before.before in omega (arith, fits s.args.o s.requires))
     (λ c. search rules)
     (λ c κs. search rules)
-    (λ c. search (cases, c.paused2.ensures, c.before.before.in_clocks.ensures, c.before.before.before.before.before.before.before.slice_start.ensures))
+    (λ c. search (cases, c.paused-then-o-gt1-2.ensures, c.before.before.in_clocks-full.ensures, c.before.before.before.before.before.before.before.slice_start.ensures))
     (λ c κs. search rules)
-    (λ c. search (cases, c.no-operation2.ensures, c.before.before.before.slice_start.ensures)))
+    (λ c. search (cases, c.no_operation-2.ensures, c.before.before.before.slice_start.ensures)))

@@ -14,4 +14,4 @@ begun_fits_spec =
     (λ c κs. search rules)
     (λ c κs. search rules)
     (λ c κs. search rules)
-    (λ c. rw (c.both3.ensures, c.before.both2.ensures, c.before.before.both.ensures, c.before.before.before.address_limit.ensures)))
+    (λ c. rw (c.both-3.ensures, c.before.both-2.ensures, c.before.before.both.ensures, c.before.before.before.address_limit.ensures)))

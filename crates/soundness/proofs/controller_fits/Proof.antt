@@ -17,4 +17,4 @@ controller_fits_spec =
     (λ c κs. search rules)
     (λ c κs. search rules)
     (λ c κs. search rules)
-    (λ c. rw (c.both4.ensures, c.before.both3.ensures, c.before.before.both2.ensures, c.before.before.before.both.ensures, c.before.before.before.before.before.setup_kinds.ensures, c.before.before.before.before.before.before.condition_of.ensures, c.before.before.before.before.before.before.before.inner_fits.ensures, c.before.before.before.before.before.before.before.before.outer_fits.ensures)))
+    (λ c. rw (c.both-4.ensures, c.before.both-3.ensures, c.before.before.both-2.ensures, c.before.before.before.both.ensures, c.before.before.before.before.before.setup_kinds.ensures, c.before.before.before.before.before.before.condition_of.ensures, c.before.before.before.before.before.before.before.inner_fits.ensures, c.before.before.before.before.before.before.before.before.outer_fits.ensures)))

@@ -13,6 +13,6 @@ frame_fits_spec =
     (λ c κs. search rules)
     (λ c. search (cases, c.stage_fits.ensures))
     (λ c κs. search rules)
-    (λ c. search (cases, c.stage-fits2.ensures))
+    (λ c. search (cases, c.stage_fits-then-f-eq2.ensures))
     (λ c κs. search rules)
     (λ c. search (cases, c.begun_fits.ensures)))

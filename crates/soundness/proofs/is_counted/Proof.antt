@@ -11,4 +11,4 @@ is_counted_spec =
     (tie.spec
     (λ c κs. search rules)
     (λ c κs. search rules)
-    (λ c. rw (c.both.ensures, c.before.before.before.before.in_clocks.ensures)))
+    (λ c. rw (c.both.ensures, c.before.before.before.before.in_clocks-full.ensures)))

@@ -16,4 +16,4 @@ is_inside_spec =
     (λ c κs. search rules)
     (λ c κs. search rules)
     (λ c κs. search rules)
-    (λ c. rw (c.both5.ensures, c.before.both4.ensures, c.before.before.both3.ensures, c.before.before.before.both2.ensures, c.before.before.before.before.both.ensures, c.before.before.before.before.before.operation_fits.ensures, c.before.before.before.before.before.before.is_apart.ensures)))
+    (λ c. rw (c.both-5.ensures, c.before.both-4.ensures, c.before.before.both-3.ensures, c.before.before.before.both-2.ensures, c.before.before.before.before.both.ensures, c.before.before.before.before.before.operation_fits.ensures, c.before.before.before.before.before.before.is_apart.ensures)))

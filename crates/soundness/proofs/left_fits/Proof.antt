@@ -15,4 +15,4 @@ left_fits_spec =
     (λ c κs. search rules)
     (λ c κs. search rules)
     (λ c κs. search rules)
-    (λ c. search (cases, c.both2.ensures, c.before.both.ensures, c.before.before.is-counted2.ensures)))
+    (λ c. search (cases, c.both-2.ensures, c.before.both.ensures, c.before.before.is_counted-2.ensures)))

@@ -16,4 +16,4 @@ operation_fits_spec =
     (λ c κs. search rules)
     (λ c κs. search rules)
     (λ c κs. search rules)
-    (λ c. rw (c.both3.ensures, c.before.both2.ensures, c.before.before.both.ensures, c.before.before.before.state_fits.ensures, c.before.before.before.before.left_fits.ensures, c.before.before.before.before.before.before.times_fit.ensures)))
+    (λ c. rw (c.both-3.ensures, c.before.both-2.ensures, c.before.before.both.ensures, c.before.before.before.state_fits.ensures, c.before.before.before.before.left_fits.ensures, c.before.before.before.before.before.before.times_fit.ensures)))

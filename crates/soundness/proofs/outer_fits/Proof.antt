@@ -5,9 +5,9 @@ use Rattle.soundness.specs.Sound.{outer_fits}
 use Rattle.soundness.proofs.outer_fits.Statement.{statement}
 use Rattle.soundness.proofs.outer_fits.Tie as tie
 
-pub outer-fits-spec : {M : Type 1} → statement M
+pub outer_fits_spec : {M : Type 1} → statement M
 unfolding outer_fits all
-outer-fits-spec =
+outer_fits_spec =
     tie.close
     (tie.spec
     (λ c. search cases)
