@@ -1,6 +1,6 @@
 # Builds the proved library and the C host around it, and runs their tests.
 #
-#   make test        everything from nothing: proofs, must-fail edits, library, host tests; ends with 'N passed, 0 failed'
+#   make test        everything: proofs, must-fail edits, library, lint, host tests; ends with 'N passed, 0 failed'
 #   make demo        the main job, on data of the repository
 #   make lib         the proved library as a C archive
 #   make host        the host's programs
