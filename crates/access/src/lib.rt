@@ -25,6 +25,7 @@ fn is_array(address: u32) -> bool
 }
 
 // The lock register of the block of an array address.
+#[tactic(auto, unfolding(crate::specs::Read::lock_of))]
 fn lock_of(locks: [u8; 16], address: u32) -> u8
     requires { address < 1048576 }
     ensures { result ≡ lock_of locks address }
@@ -34,6 +35,7 @@ fn lock_of(locks: [u8; 16], address: u32) -> u8
 }
 
 // A register as it reads.
+#[tactic(auto, using(part::proofs::Rule::lock_below), unfolding(crate::specs::Read::register_value))]
 fn register_value(part: u8, straps: u8, locks: [u8; 16], sample: u16, address: u32) -> u8
     ensures { result ≡ register_value part straps locks sample address }
 {
@@ -98,6 +100,7 @@ pub struct Reached {
 }
 
 // Only locks can be written, and only while their lock-down bit is 0.
+#[tactic(auto, using(basics::proofs::Rules::cases, part::proofs::Rule::lock_below), unfolding(crate::specs::Write::lock_written))]
 fn write_lock(part: u8, straps: u8, locks: [u8; 16], address: u32, byte: u8) -> [u8; 16]
     ensures { result ≡ lock_written part straps locks address byte }
 {

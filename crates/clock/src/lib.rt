@@ -45,6 +45,7 @@ fn reset_device(d: Device) -> Device
 }
 
 // The bus, which sees device and image as the controller left them on this clock.
+#[tactic(auto, unfolding(crate::specs::Clock::served_of))]
 fn serve(d: Device, image: &[u8], sample: u16) -> Reached
     requires { length image.now ≡ 1048576 }
     ensures { result ≡ served_of d image.now sample }
@@ -89,6 +90,7 @@ fn is_eventless(d: Device, sample: u16) -> bool
 }
 
 // One clock of a sound device on a whole image. It has no refusals.
+#[tactic(auto, using(operation::proofs::FitsIn::controller_clock_fits, soundness::proofs::Clauses::parts, crate::proofs::Eventless::eventless_device, crate::proofs::Eventless::eventless_image), unfolding(crate::specs::Clock::device_clock, crate::specs::Clock::image_after, crate::specs::Clock::is_cut))]
 pub fn clock_device(d: Device, image: &mut [u8], sample: u16) -> DeviceClocked
     requires d_value { sound_of d ≡ true }
     requires image_len { length image.old ≡ 1048576 }

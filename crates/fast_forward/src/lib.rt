@@ -61,6 +61,7 @@ fn operation_later(o: Operation, n: u32) -> Operation
 }
 
 // Up to n clocks, until no operation counts any more: from one clock on which something is due to the next.
+#[tactic(auto, using(crate::proofs::Replaced::replaced_same, crate::proofs::Turns::Counting, crate::proofs::Turns::stops, crate::proofs::Turns::sound, crate::proofs::Turns::older_sound, crate::proofs::Turns::due_fits, crate::proofs::Turns::due_counting, crate::proofs::Turns::due_last, crate::proofs::Turns::due_more, crate::proofs::Turns::none_due))]
 pub fn forward(c: Controller, image: &mut [u8], n: u32) -> Forwarded
     requires c_value { controller_fits c ≡ true }
     requires image_len { length image.old ≡ 1048576 }

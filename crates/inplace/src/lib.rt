@@ -15,8 +15,8 @@ pub struct Clocked {
     pub answer: u32,
 }
 
-#[unsafe(no_mangle)]
-pub extern "C" fn pod_clock(device: &mut Device, image: &mut [u8], sample: u16) -> Clocked
+#[tactic(auto, using(step::proofs::Doors::refused), unfolding(crate::specs::Clocked::clocked_of))]
+pub fn pod_clock(device: &mut Device, image: &mut [u8], sample: u16) -> Clocked
     ensures { StepsInPlace device.old image.old sample result device.new image.new }
 {
     let s = step(*device, image, sample);

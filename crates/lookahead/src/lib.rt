@@ -46,6 +46,7 @@ fn lines_at(stream: &[u8], k: usize) -> u8
 }
 
 // The address that seven samples shift in.
+#[tactic(auto, using(crate::proofs::Looks::address_turn))]
 fn seven_at(part: u8, stream: &[u8], from: usize) -> u32
     requires { 2 * (from + 7) ≤ length stream.now }
     ensures { result ≡ address_over part stream.now from 7 0 }
@@ -102,6 +103,7 @@ fn head_fits(stream: &[u8], part: u8, straps: u8, kind: u8, k: usize) -> bool
 
 // Whether at place k a frame of this kind begins whose first `clocks` clocks lie before place `to`: its head is for this part,
 // and all its samples but the first are idle.
+#[tactic(auto, using(crate::proofs::Looks::whole_not_begun, crate::proofs::Looks::whole_cut, crate::proofs::Looks::whole_other, crate::proofs::Looks::whole_head))]
 pub fn is_whole_frame(
     stream: &[u8],
     part: u8,

@@ -1,6 +1,6 @@
 -- Document 01, "Bay sheet": fields of a one-byte tag, a two-byte length and a value, the straps under tag 01h, then the
 -- three times under tag 02h, and nothing else; what reading some bytes gives, and what writing leaves. Assumes nothing.
-use Rattle.std.specs.Prelude.{ℕ, ◌+◌, ◌*◌, ◌/◌, ◌%◌, ◌≡◌, Bool, cond, List, [], ◌∷◌, ◌++◌, eqb, ltb, length, get_or, drop}
+use Rattle.std.specs.Prelude.{ℕ, ◌+◌, ◌/◌, ◌%◌, ◌≡◌, Bool, cond, List, [], ◌∷◌, ◌++◌, eqb, ltb, length, get_or, drop}
 use Rattle.basics.specs.All.{all}
 use Rattle.basics.specs.Bytes.{two_at}
 use Rattle.units.specs.declared.Times.{Times}

@@ -150,6 +150,7 @@ fn bytes_of(straps: u8, t: Times) -> [u8; 13]
 }
 
 // The bytes in front of a buffer that has room for them.
+#[tactic(auto, using(crate::proofs::Front::front_more, crate::proofs::Front::front_all))]
 fn put(buffer: &mut [u8], bytes: [u8; 13])
     requires { 13 ≤ length buffer.old }
     ensures { buffer.new ≡ bytes ++ drop 13 buffer.old }

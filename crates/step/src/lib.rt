@@ -18,6 +18,7 @@ pub struct Stepped {
 }
 
 // Step: a device, the image and one sample.
+#[tactic(auto, using(crate::proofs::Doors::unsound, crate::proofs::Doors::mismatched, crate::proofs::Doors::overvolted, crate::proofs::Doors::accepted), unfolding(crate::specs::Step::stepped_of, crate::specs::Step::stored_of))]
 pub fn step(device: Device, image: &mut [u8], sample: u16) -> Stepped
     ensures { Steps device image.old sample result image.new }
 {

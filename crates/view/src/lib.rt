@@ -17,6 +17,7 @@ pub struct Piece {
     pub length: u32,
 }
 
+#[tactic(auto, using(crate::proofs::Zeros::stops, crate::proofs::Zeros::goes_on))]
 fn all_zero(bytes: &[u8]) -> bool
     ensures { result ≡ all_zero bytes.now }
 {
@@ -30,6 +31,7 @@ fn all_zero(bytes: &[u8]) -> bool
     true
 }
 
+#[tactic(auto, using(basics::proofs::Rules::cases), unfolding(crate::specs::Shown::is_zeros, basics::specs::All::all))]
 fn is_zeros(page: &[u8]) -> bool
     ensures { result ≡ is_zeros page.now }
 {
@@ -39,6 +41,7 @@ fn is_zeros(page: &[u8]) -> bool
     false
 }
 
+#[tactic(auto, using(basics::proofs::Rules::cases), unfolding(crate::specs::Shown::can_show, basics::specs::All::all))]
 fn can_show(device: Device, image: &[u8], page: &[u8], block: u32) -> bool
     ensures { result ≡ can_show device image.now page.now block }
 {
@@ -64,6 +67,7 @@ fn read_locked(device: Device, block: u32) -> bool
 
 // The 65,536 bytes of a block, or of the page where the block is read-locked; the page's empty front where the device,
 // the image, the block or the page will not do.
+#[tactic(auto, using(basics::proofs::Rules::cases, crate::proofs::Ready::told), unfolding(crate::specs::Shown::shown))]
 pub fn view<'a>(device: Device, image: &'a [u8], page: &'a [u8], block: u32) -> &'a [u8]
     ensures { Shows device image.now page.now block result.now }
 {
@@ -79,6 +83,7 @@ pub fn view<'a>(device: Device, image: &'a [u8], page: &'a [u8], block: u32) -> 
 }
 
 // The same choice as numbers.
+#[tactic(auto, using(basics::proofs::Rules::cases, crate::proofs::Ready::told), unfolding(crate::specs::Shown::piece_shown))]
 pub fn piece_shown(device: Device, image: &[u8], page: &[u8], block: u32) -> Piece
     ensures { ShowsPiece device image.now page.now block result }
 {

@@ -11,10 +11,10 @@ reach_spec =
     (tie.spec
     (λ c κs. search rules)
     (λ c κs. search rules)
-    (λ c κs. omega (arith, c.array_address.ensures))
+    (λ c κs. omega (arith, c.array_address-at.ensures))
     (λ c κs. search rules)
     (λ c.
     let a = c.before.before.before in
-    rw (c.before.write.ensures, c.before.before.lock_of.ensures, a.array_address.ensures, ← a.before.before.before.before.is_array.ensures, a.before.before.before.if1.true))
+    rw (c.before.write-w.ensures, c.before.before.lock_of.ensures, a.array_address-at.ensures, ← a.before.before.before.before.is_array.ensures, a.before.before.before.if-is_array.true))
     (λ c κs. search rules)
-    (λ c. rw (c.write_lock.ensures, ← c.before.before.is_array.ensures, c.before.if1.false)))
+    (λ c. rw (c.write_lock-changed.ensures, ← c.before.before.is_array.ensures, c.before.if-is_array.false)))

@@ -12,10 +12,10 @@ value_spec =
     (tie.spec
     (λ c κs. search rules)
     (λ c κs. search rules)
-    (λ c κs. omega (arith, c.array_address.ensures))
+    (λ c κs. omega (arith, c.array_address-at.ensures))
     (λ c κs. search rules)
     (λ c.
     let a = c.before.before in
-    search (cases, c.array_value.ensures, c.before.lock_of.ensures, a.array_address.ensures, ← a.before.before.before.is_array.ensures, a.before.before.if1.true))
+    search (cases, c.array_value.ensures, c.before.lock_of.ensures, a.array_address-at.ensures, ← a.before.before.before.is_array.ensures, a.before.before.if-is_array.true))
     (λ c κs. search rules)
-    (λ c. search (cases, c.register_value.ensures, ← c.before.before.is_array.ensures, c.before.if1.false)))
+    (λ c. search (cases, c.register_value.ensures, ← c.before.before.is_array.ensures, c.before.if-is_array.false)))

@@ -14,6 +14,6 @@ address_on_spec =
     (λ c. search (cases, c.frame.ensures))
     (λ c κs. search rules)
     (λ c κs. search rules)
-    (λ c. search (cases, c.frame2.ensures, ← c.before.before.is_chosen.ensures))
+    (λ c. search (cases, c.frame-then-is_chosen.ensures, ← c.before.before.is_chosen.ensures))
     (λ c κs. search rules)
     (λ c. search (cases, c.idle_frame.ensures, ← c.before.before.is_chosen.ensures)))

@@ -16,4 +16,4 @@ clock_frame_spec =
     (λ c. search (cases, ← c.before.before.before.frame_line.ensures))
     (λ c κs. search rules)
     (λ c κs. search rules)
-    (λ c. search (cases, c.next.ensures, c.before.lines2.ensures, ← c.before.before.before.before.before.frame_line.ensures)))
+    (λ c. search (cases, c.next.ensures, c.before.lines-2.ensures, ← c.before.before.before.before.before.frame_line.ensures)))

@@ -14,6 +14,6 @@ cycle_spec =
     (λ c. search (cases, c.frame.ensures))
     (λ c. search rules)
     (λ c κs. search rules)
-    (λ c. search (cases, c.frame2.ensures))
+    (λ c. search (cases, c.frame-then-lines-eq3.ensures))
     (λ c κs. search rules)
     (λ c. search (cases, c.idle_frame.ensures)))

@@ -13,5 +13,5 @@ is_eventless_spec =
     (λ c. search (cases, ← c.before.frame_line.ensures))
     (λ c κs. search rules)
     (λ c κs. search rules)
-    (λ c. search (cases, c.is_still.ensures, c.before.active_of.ensures, ← c.before.before.before.before.before.before.frame_line.ensures))
+    (λ c. search (cases, c.is_still.ensures, c.before.active_of-o.ensures, ← c.before.before.before.before.before.before.frame_line.ensures))
     (λ c. search (cases, ← c.before.before.before.frame_line.ensures)))

@@ -10,4 +10,4 @@ reset_device_spec =
     (tie.spec
     (λ c κs. search rules)
     (λ c κs. search rules)
-    (λ c. rw (c.idle_frame.ensures, c.before.before.reset.ensures)))
+    (λ c. rw (c.idle_frame-none.ensures, c.before.before.reset-rest.ensures)))

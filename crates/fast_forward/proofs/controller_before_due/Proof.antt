@@ -16,9 +16,9 @@ controller_before_due_spec =
     (tie.spec
     (λ c κs. search rules)
     (λ c κs. search rules)
-    (λ c. let f = rw c.before.before.active_of.ensures at c.before.is_still.ensures in search (cases, ← f))
-    (λ c κs. let w = c.before.before in let f : is_still (active w.before.args.c) ≡ false = (cc) in rw w.active_of.ensures (active_fits _ w.before.requires (moving _ f)))
+    (λ c. let f = rw c.before.before.active_of-o.ensures at c.before.is_still.ensures in search (cases, ← f))
+    (λ c κs. let w = c.before.before in let f : is_still (active w.before.args.c) ≡ false = (cc) in rw w.active_of-o.ensures (active_fits _ w.before.requires (moving _ f)))
     (λ c.
     let w = c.before.before.before in
-    let f = rw w.active_of.ensures at c.before.before.is_still.ensures in
-    search (cases, c.operation_before_due.ensures, w.active_of.ensures, ← f, c.before.if1.false)))
+    let f = rw w.active_of-o.ensures at c.before.before.is_still.ensures in
+    search (cases, c.operation_before_due.ensures, w.active_of-o.ensures, ← f, c.before.if-is_still.false)))

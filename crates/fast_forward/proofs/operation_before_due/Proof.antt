@@ -11,7 +11,7 @@ unfolding operation_before_due
 operation_before_due_spec =
     tie.close
     (tie.spec
-    (λ c. let s = c.before.before.before.before.before in omega (arith, pause_least s.args.o s.requires c.before.before.before.if1.true))
+    (λ c. let s = c.before.before.before.before.before in omega (arith, pause_least s.args.o s.requires c.before.before.before.if-o-eq1.true))
     (λ c. search cases)
     (λ c. let s = c.before.before.before.before.before in omega (arith, left_least s.args.o s.requires))
     (λ c. search cases)

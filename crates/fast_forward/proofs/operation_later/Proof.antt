@@ -15,6 +15,6 @@ operation_later_spec =
     (λ c. let s = c.before in omega (arith, free_for s.args.n s.args.o s.requires.0 s.requires.1))
     (λ c.
     let s = c.before.before.before.before in
-    omega (arith, (free_for s.args.n s.args.o s.requires.0 s.requires.1).pause (eq-eqb s.args.o.state 1 c.before.if1.true)))
+    omega (arith, (free_for s.args.n s.args.o s.requires.0 s.requires.1).pause (eq-eqb s.args.o.state 1 c.before.if-o-eq1.true)))
     (λ c. search cases)
     (λ c. search cases))

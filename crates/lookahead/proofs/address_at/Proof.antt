@@ -15,6 +15,6 @@ address_at_spec =
     (λ c κs. search rules)
     (λ c κs. rw c.lines_at.ensures (omega arith))
     (λ c.
-    rw (c.shift.ensures, c.before.lines_at.ensures, c.before.before.before.seven_at.ensures)
-    (eight_nibbles _ _ _ (eq-eqb _ _ c.before.before.if1.true)))
-    (λ c. c.before.seven_at.ensures ∙ seven_nibbles _ _ _ (ne_eqb _ _ c.if1.false)))
+    rw (c.shift.ensures, c.before.lines_at.ensures, c.before.before.before.seven_at-seven.ensures)
+    (eight_nibbles _ _ _ (eq-eqb _ _ c.before.before.if-part-eq1.true)))
+    (λ c. c.before.seven_at-seven.ensures ∙ seven_nibbles _ _ _ (ne_eqb _ _ c.if-part-eq1.false)))

@@ -10,5 +10,5 @@ has_sixteen_idle_spec =
     (tie.spec
     (λ c. search rules)
     (λ c κs. search rules)
-    (λ c. c.are_idle.ensures ∙ sixteen_yes _ _ _ c.before.if1.true)
-    (λ c. sixteen_no _ _ _ c.if1.false))
+    (λ c. c.are_idle.ensures ∙ sixteen_yes _ _ _ c.before.if-to-k-ge16.true)
+    (λ c. sixteen_no _ _ _ c.if-to-k-ge16.false))

@@ -21,5 +21,5 @@ head_fits_spec =
     (λ c κs. search rules)
     (λ c. search rules)
     (λ c κs. search rules)
-    (λ c. search (cases, ← c.lines-at3.ensures, ← c.before.before.lines-at2.ensures))
-    (λ c. search (cases, ← c.before.lines-at2.ensures)))
+    (λ c. search (cases, ← c.lines_at-then-lines_at-straps.ensures, ← c.before.before.lines_at-2.ensures))
+    (λ c. search (cases, ← c.before.lines_at-2.ensures)))

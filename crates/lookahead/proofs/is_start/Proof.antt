@@ -15,7 +15,7 @@ is_start_spec =
     (λ c κs. search rules)
     (λ c.
     let f = c.before.before in
-    search (cases, c.lines.ensures, ← f.frame_line.ensures, ← f.before.before.is_reset.ensures, f.before.if1.false))
+    search (cases, c.lines.ensures, ← f.frame_line.ensures, ← f.before.before.is_reset.ensures, f.before.if-is_reset.false))
     (λ c.
     let f = c.before in
-    search (cases, ← f.frame_line.ensures, ← f.before.before.is_reset.ensures, f.before.if1.false)))
+    search (cases, ← f.frame_line.ensures, ← f.before.before.is_reset.ensures, f.before.if-is_reset.false)))

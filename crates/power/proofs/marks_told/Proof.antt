@@ -11,5 +11,5 @@ marks_told_spec =
     (tie.spec
     (λ c κs. search rules)
     (λ c. search rules)
-    (λ c. search (cases, ← c.before.before.sound.ensures, c.before.if1.true))
+    (λ c. search (cases, ← c.before.before.sound.ensures, c.before.if-sound.true))
     (λ c. search (cases, ← c.before.sound.ensures)))

@@ -16,13 +16,13 @@ power_up_spec =
     (λ c κs. search rules)
     (λ c. search (cases, c.refused.ensures, ← c.before.before.strap_count.ensures))
     (λ c κs. search rules)
-    (λ c. let a = allowed _ _ (rw c.before.before.before.strap_count.ensures at c.before.before.if1.false) in omega (arith, a.0))
-    (λ c. let a = allowed _ _ (rw c.before.before.before.strap_count.ensures at c.before.before.if1.false) in omega (arith, a.1))
+    (λ c. let a = allowed _ _ (rw c.before.before.before.strap_count.ensures at c.before.before.if-strap_count-straps.false) in omega (arith, a.0))
+    (λ c. let a = allowed _ _ (rw c.before.before.before.strap_count.ensures at c.before.before.if-strap_count-straps.false) in omega (arith, a.1))
     (λ c κs. (cc))
-    (λ c κs. (allowed _ _ (rw c.before.before.before.before.strap_count.ensures at c.before.before.before.if1.false)).0)
+    (λ c κs. (allowed _ _ (rw c.before.before.before.before.strap_count.ensures at c.before.before.before.if-strap_count-straps.false)).0)
     (λ c.
     let t = c.before in
     let s = t.before.before.before in
-    rw (c.fresh.ensures, t.times_of.ensures, ← s.before.strap_count.ensures, lt-leb _ _ s.if1.false, ← t.before.before.are_times.ensures, t.before.if2.true))
+    rw (c.fresh.ensures, t.times_of.ensures, ← s.before.strap_count.ensures, lt-leb _ _ s.if-strap_count-straps.false, ← t.before.before.are_times.ensures, t.before.if-are_times.true))
     (λ c κs. search rules)
-    (λ c. search (cases, c.refused2.ensures, ← c.before.before.are_times.ensures, ← c.before.before.before.before.strap_count.ensures)))
+    (λ c. search (cases, c.refused-2.ensures, ← c.before.before.are_times.ensures, ← c.before.before.before.before.strap_count.ensures)))

@@ -12,5 +12,5 @@ status_told_spec =
     (λ c κs. search rules)
     (λ c κs. search rules)
     (λ c. search rules)
-    (λ c. search (cases, c.status.ensures, ← c.before.before.before.sound.ensures, c.before.before.if1.true))
+    (λ c. search (cases, c.status.ensures, ← c.before.before.before.sound.ensures, c.before.before.if-sound.true))
     (λ c. search (cases, ← c.before.sound.ensures)))

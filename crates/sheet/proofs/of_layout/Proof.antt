@@ -12,6 +12,6 @@ of_layout_spec =
     (tie.spec
     (λ c κs. search rules)
     (λ c κs. search rules)
-    (λ c. search (cases, c.field-at2.ensures, ← c.before.before.field_at.ensures))
+    (λ c. search (cases, c.field_at-then-field_at.ensures, ← c.before.before.field_at.ensures))
     (λ c. search (cases, ← c.before.field_at.ensures))
     (λ c. search cases))

@@ -13,10 +13,10 @@ read_spec =
     tie.close
     (tie.spec
     (λ c κs. search rules)
-    (λ c. let w = c.before in omega (arith, thirteen w.before.before.before.args.sheet.now (rw w.before.of_layout.ensures at w.if1.true)))
-    (λ c. let w = c.before.before in search (cases, ← w.before.of_layout.ensures, w.if1.true))
-    (λ c κs. let w = c.before.before in omega (arith, thirteen w.before.before.before.args.sheet.now (rw w.before.of_layout.ensures at w.if1.true)))
+    (λ c. let w = c.before in omega (arith, thirteen w.before.before.before.args.sheet.now (rw w.before.of_layout.ensures at w.if-of_layout.true)))
+    (λ c. let w = c.before.before in search (cases, ← w.before.of_layout.ensures, w.if-of_layout.true))
+    (λ c κs. let w = c.before.before in omega (arith, thirteen w.before.before.before.args.sheet.now (rw w.before.of_layout.ensures at w.if-of_layout.true)))
     (λ c κs. search rules)
-    (λ c. let t = c.before in let f = rw t.before.times_in.ensures at t.times_fit.ensures in let w = t.before.before.before.before in search (cases, t.before.times_in.ensures, ← f, ← w.before.of_layout.ensures, w.if1.true))
-    (λ c. let t = c.before in let f = rw t.before.times_in.ensures at t.times_fit.ensures in let w = t.before.before.before.before in search (cases, ← f, ← w.before.of_layout.ensures, w.if1.true))
+    (λ c. let t = c.before in let f = rw t.before.times_in-times.ensures at t.times_fit.ensures in let w = t.before.before.before.before in search (cases, t.before.times_in-times.ensures, ← f, ← w.before.of_layout.ensures, w.if-of_layout.true))
+    (λ c. let t = c.before in let f = rw t.before.times_in-times.ensures at t.times_fit.ensures in let w = t.before.before.before.before in search (cases, ← f, ← w.before.of_layout.ensures, w.if-of_layout.true))
     (λ c. search (cases, ← c.before.of_layout.ensures)))

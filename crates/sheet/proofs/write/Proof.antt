@@ -12,11 +12,11 @@ write_spec =
     (tie.spec
     (λ c. search cases)
     (λ c κs. search rules)
-    (λ c. let w = c.before in search (cases, ← w.before.are_times.ensures, w.if2.true))
+    (λ c. let w = c.before in search (cases, ← w.before.are_times.ensures, w.if-are_times.true))
     (λ c. search rules)
     (λ c κs. (cc))
     (λ c κs. search rules)
     (λ c κs. search rules)
     (λ c. search rules)
-    (λ c. let b = c.before.before.before in let w = b.before.before.before.before in search (cases, c.before.before.put.ensures, b.bytes_of.ensures, b.before.times_of.ensures, ← w.before.are_times.ensures, w.if2.true))
+    (λ c. let b = c.before.before.before in let w = b.before.before.before.before in search (cases, c.before.before.put.ensures, b.bytes_of.ensures, b.before.times_of.ensures, ← w.before.are_times.ensures, w.if-are_times.true))
     (λ c. search (cases, ← c.before.are_times.ensures)))
