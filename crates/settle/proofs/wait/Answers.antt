@@ -1,5 +1,5 @@
 -- `settle::wait`: behind an idle frame the controller's wait is the whole of it. Assumes nothing.
-use Rattle.std.proofs.Common.{◌≡◌, ◌∙◌, ◌-◌}
+use Rattle.std.proofs.Common.{◌∙◌, ◌-◌}
 use borrow.Author.Tests.{eq-eqb}
 use Rattle.soundness.proofs.Clauses.{parts}
 use Rattle.settle.proofs.Idle.{waits}
