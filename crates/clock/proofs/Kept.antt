@@ -1,21 +1,18 @@
 -- A clock takes a sound device to a sound device, and an image to one of the same length. Assumes nothing.
-use mathlib.Core.Path.{◌≡◌, ◌∙◌, refl}
-use mathlib.Core.Bool.{Bool, true, false, cond}
-use mathlib.Core.List.{List, ◌++◌}
-use Prim.Native.Nat.{ℕ, ◌+◌, ◌≤◌, ◌<◌}
+use mathlib.Core.Path.{◌≡◌, refl}
+use mathlib.Core.Bool.{true}
+use mathlib.Core.List.{List}
+use Prim.Native.Nat.{ℕ}
 use native.Mathlib.Omega.{arith}
-use lib.ListN.{length, take, drop, set, replicate, length-append, length-take, length-drop, length-set, length-replicate}
+use lib.ListN.{length, length-append, length-drop, length-set, length-replicate}
 use lib.Seq.{length-take-le}
 use Rattle.basics.proofs.Rules.{Answer, yes, no, ask}
 use Rattle.record.specs.declared.Frame.{Frame}
-use Rattle.record.specs.declared.Controller.{Controller}
 use Rattle.record.specs.declared.Device.{Device}
-use Rattle.record.specs.Record.{is_idle, is_read, idle, frame}
-use Rattle.soundness.specs.Sound.{all_below, stage_fits, begun_fits, frame_fits, sound_of}
-use Rattle.soundness.proofs.Clauses.{Parts, parts, joined}
+use Rattle.soundness.specs.Sound.{stage_fits, begun_fits, frame_fits, sound_of}
+use Rattle.soundness.proofs.Clauses.{parts, joined}
 use Rattle.effect.specs.declared.Effect.{Effect}
 use Rattle.effect.specs.declared.Effect.TheVariants.{Nothing, Program, Fill}
-use Rattle.basics.specs.Bytes.{filled}
 use Rattle.effect.specs.Effect.{FitsIn, applied}
 use Rattle.operation.specs.Clock.{controller_clock}
 use Rattle.operation.proofs.FitsIn.{controller_clock_fits}
@@ -24,7 +21,6 @@ use Rattle.bus.specs.declared.Asked.{Asked}
 use Rattle.bus.specs.declared.Asked.TheVariants.{Nothing as Silent, Read, Write}
 use Rattle.bus.specs.Frames.{frame_clock, asked_of}
 use Rattle.bus.proofs.Kept.{frame_kept, rests}
-use Rattle.access.specs.Write.{with_controller}
 use Rattle.access.proofs.Kept.{reached_kept}
 use Rattle.record.specs.Sample.{is_reset}
 use Rattle.clock.specs.Clock.{reset_device, with_frame, with_byte, answered_to, served_of, after_controller, device_clock, image_after}

@@ -1,7 +1,6 @@
 -- Document 01, "One clock, in order": what one sample does to a device and to the image. Assumes nothing.
-use Rattle.std.specs.Prelude.{ℕ, Bool, true, false, cond, not, List, eqb, get_or, replicate}
+use Rattle.std.specs.Prelude.{ℕ, Bool, false, cond, not, List, get_or, replicate}
 use Rattle.record.specs.declared.Frame.{Frame}
-use Rattle.record.specs.declared.Controller.{Controller}
 use Rattle.record.specs.declared.Device.{Device}
 use Rattle.record.specs.Record.{device, frame, idle, is_absent}
 use Rattle.record.specs.Sample.{is_reset}

@@ -1,26 +1,25 @@
 -- A byte written to the array takes a sound controller to a sound controller. Assumes nothing.
-use mathlib.Core.Path.{◌≡◌, ◌∙◌, sym, refl, ap}
-use mathlib.Core.Bool.{Bool, true, false, cond, not, ◌||◌}
-use Prim.Native.Nat.{ℕ, ◌*◌, ◌/◌, ◌%◌, ◌≤◌, ◌<◌}
+use mathlib.Core.Path.{◌≡◌, ◌∙◌, sym, refl}
+use mathlib.Core.Bool.{Bool, true, false, cond}
+use Prim.Native.Nat.{ℕ, ◌<◌}
 use native.Mathlib.Omega.{arith}
-use lib.Dec.{eqb, ltb, leb}
+use lib.Dec.{eqb, ltb}
 use lib.Bits.{bit_and, bit_or, and_le_r}
-use borrow.Author.Tests.{ltb-true, eqb-true, eqb-false, eq-eqb, ne_eqb, lt-ltb}
-use Rattle.basics.specs.All.{all}
+use borrow.Author.Tests.{ltb-true, eqb-true, eqb-false, eq-eqb, lt-ltb}
 use Rattle.basics.proofs.Rules.{Answer, yes, no, ask, clash}
 use Rattle.basics.proofs.All.{holds, also, none}
 use Rattle.basics.proofs.Table.{at}
 use Rattle.units.specs.declared.Times.{Times}
-use Rattle.units.specs.Units.{clocks, in_clocks, times_fit}
-use Rattle.units.proofs.Ranges.{Ranges, ranges}
+use Rattle.units.specs.Units.{in_clocks, times_fit}
+use Rattle.units.proofs.Ranges.{ranges}
 use Rattle.record.specs.declared.Operation.{Operation}
 use Rattle.record.specs.declared.Controller.{Controller}
-use Rattle.record.specs.Record.{is_absent, is_program, is_erase, is_running, is_pausing, is_suspended, with_pause, block_of, controller}
+use Rattle.record.specs.Record.{is_absent, is_program, is_erase, is_running, is_pausing, is_suspended, with_pause}
 use Rattle.status.specs.declared.Condition.{Condition}
 use Rattle.status.specs.declared.Condition.TheVariants.{Ready, Running, Pausing, ProgramSuspended, EraseSuspended, ProgramInside}
 use Rattle.status.specs.Status.{condition_of}
-use Rattle.soundness.specs.Sound.{counts, left_fits, state_fits, operation_fits, outer_fits, apart, inside, inner_fits, setup_kinds, controller_fits}
-use Rattle.soundness.proofs.Clauses.{Clauses, clauses, made}
+use Rattle.soundness.specs.Sound.{left_fits, state_fits, operation_fits, outer_fits, apart, inside, inner_fits, controller_fits}
+use Rattle.soundness.proofs.Clauses.{clauses, made}
 use Rattle.operation.proofs.Facts.{fits, outer_fits_lem}
 use Rattle.operation.proofs.Kept.{count_full, restate, none_inside, suspended_else, unset_made}
 use Rattle.command.specs.declared.Action.{Action}

@@ -27,7 +27,7 @@ use Rattle.command.specs.declared.Action.TheVariants.{Array, Status, Signature, 
 use Rattle.command.specs.declared.Verdict.{Verdict}
 use Rattle.command.specs.declared.Verdict.TheVariants.{Unjudged, Judged}
 use Rattle.command.specs.Commands.{row_of, column_of, action_at, action_of, acted}
-use Rattle.command.specs.Setup.{accepted_of, starting, failing, answered, unconfirmed, written, written_of}
+use Rattle.command.specs.Setup.{accepted_of, starting, failing, answered, unconfirmed, written_of}
 use Rattle.command.proofs.Kept.{column_below}
 
 -- a command outside a setup, pause and resume among them, hangs on no sample, lock register, address or time of the device

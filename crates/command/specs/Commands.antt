@@ -1,7 +1,6 @@
 -- Document 01, "Commands": six rows by nine columns decide each command byte outside a setup, and what each action does.
 -- Assumes nothing.
 use Rattle.std.specs.Prelude.{ℕ, cond, ◌||◌, List, [], ◌∷◌, eqb, get_or}
-use Rattle.units.specs.declared.Clocks.{Clocks}
 use Rattle.units.specs.Units.{in_clocks}
 use Rattle.record.specs.declared.Operation.{Operation}
 use Rattle.record.specs.declared.Controller.{Controller}

@@ -68,6 +68,7 @@ fn stops_before(stream: &[u8], part: u8, straps: u8, k: usize, to: usize) -> boo
 }
 
 // Whether a frame asks for nothing.
+#[tactic(auto, using(basics::proofs::Rules::clash))]
 fn is_silent(f: Frame) -> bool
     ensures { result ≡ true → asked_of f ≡ Nothing }
 {
@@ -80,6 +81,7 @@ fn is_silent(f: Frame) -> bool
 
 // One clock of the bus alone, or none: it stops before a reset, before a whole write, and before a clock on which the frame
 // asks for something.
+#[tactic(auto, using(crate::proofs::Steps::alone_none))]
 fn clock_bus(
     part: u8,
     straps: u8,
@@ -113,6 +115,7 @@ fn clock_bus(
 
 // The bus alone, while nothing is due in the controller: idle stretches and whole reads at once, other clocks one by one until
 // it stops.
+#[tactic(auto, using(crate::proofs::Leads::stays, crate::proofs::Whole::whole_room, crate::proofs::Steps::over, crate::proofs::Steps::room_later))]
 fn run_bus_alone(
     d: Device,
     image: &[u8],
@@ -162,6 +165,7 @@ fn run_bus_alone(
 
 // The device n clocks later, nothing having been said to its controller, with the frame that the bus has come to. Where no
 // operation counts, its controller is not taken out and put back.
+#[tactic(auto, using(fast_forward::proofs::Laws::forwarded))]
 fn device_later(d: Device, image: &mut [u8], f: Frame, n: u32) -> Device
     requires d_value { sound_of d ≡ true }
     requires image_len { length image.old ≡ 1048576 }
@@ -189,6 +193,7 @@ struct Stretch {
 }
 
 // An idle stretch, with all that falls due in it. The controller is `behind` the bus by so many clocks, as in the two below.
+#[tactic(auto, using(crate::proofs::Steps::over))]
 fn stretch_idle(
     d: Device,
     image: &mut [u8],
@@ -273,6 +278,7 @@ fn stretch_clock(
 }
 
 // The next stretch behind what the bus did alone: one of the three.
+#[tactic(auto, using(crate::proofs::Whole::whole_room))]
 fn stretch_on(
     d: Device,
     image: &mut [u8],
@@ -312,6 +318,7 @@ fn place_before_due(c: Controller, k: usize, n: usize) -> usize
 
 // The samples from place k on, as many as are known by looking ahead: what the bus does alone, and then an idle stretch with
 // all that falls due in it, or a whole write, or else one clock.
+#[tactic(auto, using(crate::proofs::Steps::room_less, crate::proofs::Steps::room_later))]
 fn run_stretch(
     d: Device,
     image: &mut [u8],
@@ -340,6 +347,7 @@ fn run_stretch(
 }
 
 // A sound device through every sample, each with its answer byte. The device stays sound, so that is not tested again.
+#[tactic(auto, using(crate::proofs::Leads::stays))]
 pub fn run_samples(device: Device, image: &mut [u8], stream: &[u8], answers: &mut [u8]) -> Device
     requires device_value { sound_of device ≡ true }
     requires image_len { length image.old ≡ 1048576 }

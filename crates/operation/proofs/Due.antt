@@ -2,7 +2,7 @@
 -- and an erase fills the next of its slices; every slice takes its full time. Assumes nothing.
 use mathlib.Core.Path.{◌≡◌}
 use mathlib.Core.Bool.{true, false, cond}
-use Prim.Native.Nat.{ℕ, ◌+◌, ◌-◌, ◌*◌}
+use Prim.Native.Nat.{◌+◌, ◌-◌, ◌*◌}
 use lib.Dec.{ltb}
 use Rattle.basics.proofs.Rules.{Answer, yes, no, ask}
 use Rattle.units.specs.Units.{clocks, in_clocks}

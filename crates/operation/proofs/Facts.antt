@@ -1,17 +1,16 @@
 -- What soundness tells of an operation and of the active one, as plain facts. Assumes nothing.
 use mathlib.Core.Path.{◌≡◌, sym}
-use mathlib.Core.Bool.{Bool, true, false, cond}
-use Prim.Native.Nat.{ℕ, ◌≤◌, ◌<◌, ◌*◌}
-use native.Mathlib.Omega.{arith}
-use borrow.Author.Tests.{leb-true, ltb-true, eqb-true, ne_eqb}
+use mathlib.Core.Bool.{true, false, cond}
+use Prim.Native.Nat.{◌≤◌, ◌<◌}
+use borrow.Author.Tests.{leb-true, ltb-true, ne_eqb}
 use Rattle.basics.proofs.Rules.{Answer, yes, no, ask, clash}
 use Rattle.basics.proofs.All.{holds}
-use Rattle.units.specs.Units.{in_clocks, times_fit}
+use Rattle.units.specs.Units.{times_fit}
 use Rattle.units.proofs.Ranges.{Ranges, ranges}
 use Rattle.record.specs.declared.Operation.{Operation}
 use Rattle.record.specs.declared.Controller.{Controller}
-use Rattle.record.specs.Record.{is_absent, is_program, is_erase, is_running, is_suspended, block_of}
-use Rattle.soundness.specs.Sound.{operation_fits, left_fits, state_fits, counts, outer_fits, inner_fits, inside, controller_fits}
+use Rattle.record.specs.Record.{is_absent}
+use Rattle.soundness.specs.Sound.{operation_fits, left_fits, state_fits, outer_fits, inner_fits, inside, controller_fits}
 use Rattle.effect.specs.declared.Effect.TheVariants.{Nothing}
 use Rattle.operation.specs.Clock.{active, is_still, controller_clocked, controller_clock}
 

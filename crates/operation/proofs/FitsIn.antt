@@ -1,7 +1,7 @@
 -- The effect of a clock lies inside the block of the operation that counts, and so inside the image. Assumes nothing.
 use mathlib.Core.Path.{◌≡◌}
-use mathlib.Core.Bool.{true, false}
-use Prim.Native.Nat.{ℕ, ◌≤◌, ◌<◌, ◌+◌, ◌*◌}
+use mathlib.Core.Bool.{true}
+use Prim.Native.Nat.{ℕ, ◌<◌}
 use native.Mathlib.Omega.{arith}
 use lib.Dec.{ltb}
 use borrow.Author.Tests.{eqb-false}
@@ -14,7 +14,7 @@ use Rattle.effect.specs.declared.Effect.TheVariants.{Nothing, Program, Fill}
 use Rattle.effect.specs.Effect.{FitsIn, InBlock}
 use Rattle.soundness.specs.Sound.{operation_fits, controller_fits}
 use Rattle.operation.specs.Clock.{active, is_still, slice_at, operation_clock, controller_clock}
-use Rattle.operation.proofs.Facts.{Fits, fits, Slices, slices, active_fits, moving}
+use Rattle.operation.proofs.Facts.{fits, Slices, slices, active_fits, moving}
 
 -- the slice that an erase is at lies inside its block
 slice_in : (o : Operation) → Slices o → InBlock (block_of o.address) (Fill (slice_at o) 256 255)

@@ -1,31 +1,29 @@
 -- A clock of the controller, and reset, take a sound controller to a sound controller. Assumes nothing.
 use mathlib.Core.Path.{◌≡◌, ◌∙◌, sym, refl, ap}
-use mathlib.Core.Bool.{Bool, true, false, cond, not}
-use mathlib.Core.List.{[], ◌∷◌}
-use Prim.Native.Nat.{ℕ, ◌+◌, ◌-◌, ◌*◌, ◌≤◌, ◌<◌}
+use mathlib.Core.Bool.{true, false, not}
+use Prim.Native.Nat.{ℕ, ◌-◌, ◌*◌, ◌≤◌, ◌<◌}
 use native.Mathlib.Omega.{arith}
-use lib.Dec.{eqb, ltb, leb}
+use lib.Dec.{eqb, ltb}
 use lib.Bits.{bit_and}
-use borrow.Author.Tests.{ltb-true, ltb-false, leb-true, eqb-true, eqb-false, lt-ltb, le-leb, ne_eqb}
+use borrow.Author.Tests.{ltb-true, leb-true, eqb-true, eqb-false, lt-ltb, le-leb, ne_eqb}
 use Rattle.basics.specs.All.{all}
 use Rattle.basics.proofs.Rules.{Answer, yes, no, ask, clash}
 use Rattle.basics.proofs.All.{holds, also, none}
 use Rattle.units.specs.declared.Clocks.{Clocks}
 use Rattle.units.specs.declared.Micros.{Micros}
-use Rattle.units.specs.Units.{clocks, in_clocks, times_fit}
-use Rattle.units.proofs.Ranges.{Ranges}
+use Rattle.units.specs.Units.{clocks, in_clocks}
 use Rattle.record.specs.declared.Operation.{Operation}
 use Rattle.record.specs.declared.Controller.{Controller}
-use Rattle.record.specs.Record.{is_absent, is_program, is_erase, is_running, is_pausing, is_suspended, with_pause, with_left, absent, block_of}
+use Rattle.record.specs.Record.{is_absent, is_program, is_running, is_pausing, is_suspended, with_pause, with_left, absent, block_of}
 use Rattle.part.specs.Fresh.{resting}
 use Rattle.soundness.proofs.Clauses.{Clauses, clauses, made}
 use Rattle.status.specs.declared.Condition.{Condition}
 use Rattle.status.specs.declared.Condition.TheVariants.{Ready, Running, Pausing, ProgramSuspended, EraseSuspended, ProgramInside}
 use Rattle.status.specs.Status.{condition_of}
 use Rattle.soundness.specs.Sound.{counts, left_fits, state_fits, operation_fits, outer_fits, apart, inside, inner_fits, setup_kinds, controller_fits}
-use Rattle.operation.specs.Clock.{active, is_still, paused_of, operation_clock, marks_after, replaced, controller_clock}
+use Rattle.operation.specs.Clock.{active, is_still, paused_of, operation_clock, replaced, controller_clock}
 use Rattle.operation.specs.Reset.{reset_of}
-use Rattle.operation.proofs.Facts.{Fits, fits, Slices, slices, outer_fits_lem, inner_fits_lem, active_fits, moving}
+use Rattle.operation.proofs.Facts.{fits, slices, outer_fits_lem, active_fits, moving}
 
 -- a controller at rest, whatever its marks
 pub resting_fits : (marks : ℕ) → controller_fits (resting marks) ≡ true

@@ -1,17 +1,17 @@
 -- The marks: setting or clearing one block's mark touches that one alone, and only an erase that finishes removes one.
 -- Assumes nothing.
-use mathlib.Core.Path.{◌≡◌, ◌∙◌, sym, refl, ap}
-use mathlib.Core.Bool.{Bool, true, false, cond}
-use mathlib.Core.List.{List, []}
-use Prim.Native.Nat.{ℕ, ◌-◌, ◌/◌, ◌%◌, ◌^◌, ◌<◌, min, max}
+use mathlib.Core.Path.{◌≡◌, ◌∙◌, sym, ap}
+use mathlib.Core.Bool.{true, false, cond}
+use mathlib.Core.List.{[]}
+use Prim.Native.Nat.{ℕ, ◌-◌, ◌/◌, ◌%◌, ◌^◌, ◌<◌}
 use native.Mathlib.Omega.{arith}
-use lib.Bits.{bit_and, bit_or, and_shr, or_shr, and_mod, or_mod, or_zero_r}
+use lib.Bits.{bit_and, bit_or, and_shr, or_shr, and_mod, or_mod}
 use lib.Dec.{eqb}
 use borrow.Author.Tests.{eq-eqb, ne_eqb}
 use Rattle.basics.proofs.Rules.{Answer, yes, no, ask, clash}
-use Rattle.basics.proofs.Table.{from, at, at2}
+use Rattle.basics.proofs.Table.{at, at2}
 use Rattle.record.specs.declared.Controller.{Controller}
-use Rattle.record.specs.Record.{is_absent, is_erase, block_of}
+use Rattle.record.specs.Record.{is_absent, is_erase}
 use Rattle.operation.specs.Marks.{marked, marking, clearing}
 use Rattle.operation.specs.Clock.{active, is_still, marks_after, replaced, controller_clock}
 

@@ -1,9 +1,9 @@
 -- A clock does a part of what is left of its operation and leaves the remainder: all its clocks together do the whole.
 -- So an erase's effects fill its block and nothing else. Assumes nothing.
-use mathlib.Core.Path.{◌≡◌, ◌∙◌, sym, refl, ap}
-use mathlib.Core.Bool.{true, false, cond}
+use mathlib.Core.Path.{◌≡◌, ◌∙◌, refl}
+use mathlib.Core.Bool.{true, false}
 use mathlib.Core.List.{List}
-use Prim.Native.Nat.{ℕ, ◌+◌, ◌-◌, ◌*◌, ◌≤◌, ◌<◌}
+use Prim.Native.Nat.{ℕ, ◌+◌, ◌-◌, ◌*◌}
 use native.Mathlib.Omega.{arith}
 use lib.Dec.{ltb}
 use lib.ListN.{length}
@@ -20,7 +20,7 @@ use Rattle.basics.proofs.Joined.{filled_filled}
 use Rattle.soundness.specs.Sound.{operation_fits}
 use Rattle.operation.specs.Clock.{slice_at, paused_of, operation_clock}
 use Rattle.operation.specs.Whole.{rest}
-use Rattle.operation.proofs.Facts.{Fits, fits, Slices, slices}
+use Rattle.operation.proofs.Facts.{fits, slices}
 use Rattle.operation.proofs.Kept.{Same, paused_same}
 
 -- what is left does not hang on state, pause or clocks

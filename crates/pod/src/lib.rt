@@ -4,11 +4,13 @@
 ghost use Rattle.power.specs.Power.{PowersUp, SetsTimes};
 ghost use Rattle.power.specs.Told.{TellsStatus, TellsMarks};
 ghost use Rattle.step.specs.Step.{Steps};
+ghost use Rattle.inplace.specs.Clocked.{StepsInPlace};
 ghost use Rattle.settle.specs.Settle.{Settles};
 ghost use Rattle.stream.specs.Run.{Runs};
 ghost use Rattle.sheet.specs.Sheet.{ReadsNumbers, WritesSheet};
 ghost use Rattle.view.specs.Shown.{ShowsPiece};
 
+use inplace::Clocked;
 use power::Powered;
 use record::Device;
 use settle::Settled;
@@ -42,6 +44,13 @@ pub extern "C" fn pod_step(device: Device, image: &mut [u8], sample: u16) -> Ste
     ensures { Steps device image.old sample result image.new }
 {
     step::step(device, image, sample)
+}
+
+#[unsafe(no_mangle)]
+pub extern "C" fn pod_clock(device: &mut Device, image: &mut [u8], sample: u16) -> Clocked
+    ensures { StepsInPlace device.old image.old sample result device.new image.new }
+{
+    inplace::pod_clock(device, image, sample)
 }
 
 #[unsafe(no_mangle)]

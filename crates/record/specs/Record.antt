@@ -1,6 +1,6 @@
 -- What the numbers of a record stand for. A field of what is absent (no operation, no frame) is never looked at.
 -- Assumes nothing.
-use Rattle.std.specs.Prelude.{ℕ, ◌/◌, Bool, ◌&&◌, List, eqb}
+use Rattle.std.specs.Prelude.{ℕ, ◌/◌, Bool, List, eqb}
 use Rattle.units.specs.declared.Clocks.{Clocks}
 use Rattle.units.specs.declared.Times.{Times}
 use Rattle.units.specs.Units.{clocks, times}

@@ -1,6 +1,6 @@
 -- What each test has found where a settle's number is 0, and what the settle gives then and otherwise. Assumes nothing.
 use mathlib.Core.Path.{◌≡◌, ◌∙◌, sym, refl}
-use mathlib.Core.Bool.{Bool, true, false}
+use mathlib.Core.Bool.{Bool, true}
 use mathlib.Core.List.{List}
 use Prim.Native.Nat.{ℕ}
 use lib.Dec.{eqb}

@@ -1,6 +1,6 @@
 -- An idle bus and an idle sample: a clock is one of the controller alone, and a settle goes where the controller's wait
 -- goes. Assumes nothing.
-use mathlib.Core.Path.{◌≡◌, ◌∙◌, sym, ap}
+use mathlib.Core.Path.{◌≡◌, ◌∙◌, ap}
 use mathlib.Core.Bool.{true}
 use mathlib.Core.List.{List}
 use Prim.Native.Nat.{ℕ, zero, suc, ◌+◌}

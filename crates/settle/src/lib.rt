@@ -51,6 +51,7 @@ fn with_controller(d: Device, c: Controller) -> Device
 
 // A sound device through one idle sample, up to `limit` times. A frame in progress goes clock by clock; behind it only
 // the controller moves, from one due effect to the next. The device stays sound, so that is not tested again.
+#[tactic(auto, using(soundness::proofs::Clauses::parts, fast_forward::proofs::Laws::forwarding_most, clock::proofs::Kept::device_clock_sound, crate::proofs::Turns::stops, crate::proofs::Turns::goes_on))]
 fn wait(device: Device, image: &mut [u8], sample: u16, limit: u32) -> Waited
     requires device_value { sound_of device ≡ true }
     requires image_len { length image.old ≡ 1048576 }
@@ -118,6 +119,7 @@ fn stop_number(ready: bool) -> u32
 }
 
 // Settle: refused with nothing changed, done with the least count, or 10 with all of `limit` done.
+#[tactic(auto, using(crate::proofs::Doors::accepts))]
 pub fn settle(device: Device, image: &mut [u8], sample: u16, limit: u32) -> Settled
     ensures { Settles device image.old sample limit result image.new }
 {

@@ -1,6 +1,6 @@
 use borrow.Author.Rules.{rules}
 use Rattle.command.specs.Commands.{action_at, action_of}
-use mathlib.Core.Path.{◌∙◌, ap}
+use mathlib.Core.Path.{◌∙◌}
 use Rattle.basics.proofs.Table.{at2}
 use Rattle.command.proofs.decide.Statement.{statement}
 use Rattle.command.proofs.decide.Tie as tie

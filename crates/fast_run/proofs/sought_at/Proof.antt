@@ -5,7 +5,7 @@ use Rattle.fast_run.proofs.sought_at.Tie as tie
 
 returns : tie.Need-returns
 returns c =
-    let a = c.before.before.address_at.ensures in
+    let a = c.before.before.address_at-address.ensures in
     (a, rw a at c.before.array_address.ensures, c.sample_at.ensures)
 
 pub sought_at_spec : {M : Type 1} → statement M

@@ -15,4 +15,4 @@ stops_before_spec =
     (λ c κs. search rules)
     (λ c. λ e.
     let i = c.before in
-    rw i.before.before.sample_at.ensures at (sym i.before.is_reset.ensures ∙ i.if1.false)))
+    rw i.before.before.sample_at.ensures at (sym i.before.is_reset.ensures ∙ i.if-is_reset.false)))

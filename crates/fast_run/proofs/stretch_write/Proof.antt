@@ -10,11 +10,11 @@ returns c =
     let r = c.before.before.before.before.before in
     let e = r.before.before.before.before in
     let z = e.before.before.before.before.before.before.before in
-    let t = e.device_later.ensures in
+    let t = e.device_later-e.ensures in
     record {
       further = omega arith;
       within = z.requires.1.0;
-      simulates = rw (r.reach.ensures, t.0, t.1, e.before.before.before.byte_at.ensures, e.before.before.address_at.ensures, r.before.sample_at.ensures) (write_step z.args.d z.args.image.now _ _ _ _ z.args.behind _ _ z.requires.0.given z.requires.0.wide z.requires.1.1.1 c.before.before.fill.ensures);
+      simulates = rw (r.reach-r.ensures, t.0, t.1, e.before.before.before.byte_at-byte.ensures, e.before.before.address_at-address.ensures, r.before.sample_at.ensures) (write_step z.args.d z.args.image.now _ _ _ _ z.args.behind _ _ z.requires.0.given z.requires.0.wide z.requires.1.1.1 c.before.before.fill.ensures);
     }
 
 pub stretch_write_spec : {M : Type 1} → statement M
@@ -31,6 +31,6 @@ stretch_write_spec =
     (λ c κs. tt)
     (λ c κs. let z = c.before.before.before.before.before.before.before.before.before.before.before.before.before in omega (arith, z.requires))
     (λ c. let z = c.before.before.before.before.before.before.before.before.before.before.before.before.before.before.before.before in omega (arith, z.requires))
-    (λ c. c.before.before.before.before.before.before.before.before.before.device_later.auto.1.0)
-    (λ c. c.before.before.fill.auto.0)
+    (λ c. c.before.before.before.before.before.before.before.before.before.device_later-e.auto.image)
+    (λ c. c.before.before.fill.auto.buffer)
     returns)

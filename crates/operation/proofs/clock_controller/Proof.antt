@@ -1,7 +1,7 @@
 use borrow.Author.Rules.{rules}
 use Rattle.basics.proofs.Rules.{cases}
 use mathlib.Core.Path.{◌≡◌}
-use mathlib.Core.Bool.{true, false}
+use mathlib.Core.Bool.{false}
 use Rattle.operation.specs.Clock.{active, is_still, controller_clock}
 use Rattle.operation.proofs.Facts.{active_fits, moving}
 use Rattle.operation.proofs.clock_controller.Statement.{statement}
