@@ -38,6 +38,7 @@ fn is_overvolted(stream: &[u8]) -> bool
 }
 
 // Which refusal a stream and an answer buffer meet, 0 for none. Every sample is tested here, and none is stepped.
+#[tactic(auto, using(basics::proofs::Rules::cases), unfolding(crate::specs::Run::stream_number, crate::specs::Run::misshapen))]
 fn stream_number(stream: &[u8], answers: &[u8]) -> u32
     ensures { result ≡ stream_number stream.now answers.now }
 {
@@ -57,6 +58,7 @@ fn stream_number(stream: &[u8], answers: &[u8]) -> u32
 }
 
 // Which refusal a run meets, 0 for none.
+#[tactic(auto, using(basics::proofs::Rules::cases), unfolding(crate::specs::Run::run_number))]
 fn run_number(
     image: &[u8],
     stream: &[u8],
