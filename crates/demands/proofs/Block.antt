@@ -1,14 +1,14 @@
 -- The contents of a block, under an effect in another block and under what is left of an operation on it. Assumes nothing.
-use Prim.Native.Nat.{ℕ, ◌+◌, ◌-◌, ◌*◌, ◌/◌, ◌%◌, ◌≤◌, ◌<◌}
+use Prim.Native.Nat.{ℕ, ◌+◌, ◌-◌, ◌*◌, ◌%◌, ◌≤◌, ◌<◌}
 use mathlib.Core.Path.{◌≡◌, ◌∙◌, sym, refl, ap}
-use mathlib.Core.Bool.{Bool, true, false, cond}
-use mathlib.Core.List.{List, [], ◌∷◌, ◌++◌}
+use mathlib.Core.Bool.{true, cond}
+use mathlib.Core.List.{List, ◌++◌}
 use native.Mathlib.Omega.{arith}
 use lib.Bits.{bit_and}
-use lib.Dec.{eqb, ltb}
-use lib.ListN.{length, get_or, set, take, drop, replicate, length-append, length-take, length-drop, length-set, length-replicate, get_or-replicate, get_or-append}
+use lib.Dec.{ltb}
+use lib.ListN.{length, get_or, set, take, drop, replicate, length-append, length-drop, length-replicate, get_or-replicate, get_or-append}
 use lib.Seq.{length-take-le, get_or-take, get_or-drop, get_or-append-add, get_or-set_other, drop-set-add, take-set-lt, ext_get_or}
-use borrow.Author.Tests.{ltb-true, ltb-false, lt-ltb, le-ltb, eqb-true, eqb-false}
+use borrow.Author.Tests.{ltb-true, ltb-false, eqb-false}
 use Rattle.basics.proofs.Rules.{Answer, yes, no, ask}
 use Rattle.record.specs.declared.Operation.{Operation}
 use Rattle.record.specs.Record.{is_absent, is_program, block_of}
@@ -19,7 +19,7 @@ use Rattle.effect.specs.Effect.{FitsIn, InBlock, applied}
 use Rattle.soundness.specs.Sound.{operation_fits}
 use Rattle.operation.specs.Clock.{slice_at}
 use Rattle.operation.specs.Whole.{rest}
-use Rattle.operation.proofs.Facts.{Fits, fits, Slices, slices}
+use Rattle.operation.proofs.Facts.{slices}
 use Rattle.clock.proofs.Kept.{applied_length}
 use Rattle.demands.specs.History.{contents}
 

@@ -1,29 +1,28 @@
 -- What the controller's part of a clock does to one block: its operation goes on, with what is left of it the same, or
 -- it reaches its last clock and the whole is done. Assumes nothing.
-use Prim.Native.Nat.{ℕ, ◌+◌, ◌-◌, ◌*◌, ◌≤◌, ◌<◌}
+use Prim.Native.Nat.{ℕ, ◌-◌, ◌<◌}
 use mathlib.Core.Path.{◌≡◌, ◌∙◌, sym, refl, ap}
-use mathlib.Core.Bool.{Bool, true, false, cond, not}
-use mathlib.Core.List.{List, [], ◌∷◌}
+use mathlib.Core.Bool.{Bool, true, false}
+use mathlib.Core.List.{List}
 use native.Mathlib.Omega.{arith}
 use lib.Dec.{eqb, ltb}
 use lib.ListN.{length}
-use borrow.Author.Tests.{ltb-true, eqb-true, eqb-false, eq-eqb, ne_eqb, not-true}
+use borrow.Author.Tests.{eqb-true, eqb-false, ne_eqb, not-true}
 use Rattle.basics.proofs.Rules.{Answer, yes, no, ask, clash}
 use Rattle.basics.proofs.All.{holds}
 use Rattle.units.specs.Units.{clocks, in_clocks}
 use Rattle.record.specs.declared.Operation.{Operation}
 use Rattle.record.specs.declared.Controller.{Controller}
 use Rattle.record.specs.Record.{is_absent, is_program, is_erase, is_running, is_suspended, with_left, absent, block_of}
-use Rattle.effect.specs.declared.Effect.{Effect}
-use Rattle.effect.specs.Effect.{applied, InBlock}
+use Rattle.effect.specs.Effect.{applied}
 use Rattle.soundness.specs.Sound.{operation_fits, apart, inside, inner_fits, controller_fits}
-use Rattle.soundness.proofs.Clauses.{Clauses, clauses}
-use Rattle.operation.specs.Marks.{marked, clearing}
-use Rattle.operation.specs.Clock.{active, is_still, paused_of, operation_clock, marks_after, replaced, controller_clock}
+use Rattle.soundness.proofs.Clauses.{clauses}
+use Rattle.operation.specs.Marks.{marked}
+use Rattle.operation.specs.Clock.{active, is_still, operation_clock, marks_after, replaced, controller_clock}
 use Rattle.operation.specs.Whole.{rest}
-use Rattle.operation.proofs.Facts.{fits, outer_fits_lem, inner_fits_lem, moving}
+use Rattle.operation.proofs.Facts.{fits, outer_fits_lem, moving}
 use Rattle.operation.proofs.FitsIn.{operation_clock_in}
-use Rattle.operation.proofs.Kept.{Same, paused_same}
+use Rattle.operation.proofs.Kept.{paused_same}
 use Rattle.operation.proofs.Rest.{operation_clock_rest}
 use Rattle.operation.proofs.Marked.{clearing_same, clearing_other}
 use Rattle.demands.specs.History.{is_on, op_of, is_last, contents}

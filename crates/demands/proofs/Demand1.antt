@@ -24,7 +24,6 @@ use Rattle.power.specs.Told.{status_told, marks_told}
 use Rattle.step.specs.Step.{step_number, stepped_of, stored_of}
 use Rattle.inplace.specs.Clocked.{clocked_of}
 use Rattle.clock.specs.Fold.{World, world, repeated}
-use Rattle.settle.specs.declared.Settled.{Settled}
 use Rattle.settle.specs.Settle.{is_ready, Stop, settling, settle_number, stop_number, settled_of, image_settled}
 use Rattle.settle.proofs.Least.{Least, least}
 use Rattle.settle.proofs.Laws.{accepted}

@@ -2,29 +2,25 @@
 -- the whole of it makes of the finished ones before. Assumes nothing.
 use Prim.Native.Nat.{ℕ, ◌<◌}
 use mathlib.Core.Path.{◌≡◌, ◌∙◌, sym, refl, ap}
-use mathlib.Core.Bool.{Bool, true, false, cond, not}
-use mathlib.Core.List.{List, [], ◌∷◌, ◌++◌}
+use mathlib.Core.Bool.{Bool, true, false, cond}
+use mathlib.Core.List.{List, [], ◌∷◌}
 use lib.Dec.{eqb, leb}
 use lib.ListN.{length}
 use borrow.Author.Tests.{eqb-true, eqb-false, ne_eqb, not-false}
 use Rattle.basics.proofs.Rules.{Answer, yes, no, ask, clash}
 use Rattle.units.specs.Units.{times, times_fit}
 use Rattle.record.specs.declared.Operation.{Operation}
-use Rattle.record.specs.declared.Controller.{Controller}
-use Rattle.record.specs.declared.Device.{Device}
 use Rattle.record.specs.Record.{is_absent, is_program, is_erase, absent}
 use Rattle.record.specs.Sample.{voltage}
 use Rattle.part.specs.Fresh.{fresh_of}
 use Rattle.part.specs.Parts.{strap_count}
-use Rattle.soundness.specs.Sound.{sound_of}
-use Rattle.power.specs.Power.{power_refused, powered_up, times_set}
+use Rattle.power.specs.Power.{power_refused, powered_up}
 use Rattle.power.proofs.Laws.{powered_sound, set_sound}
 use Rattle.operation.specs.Marks.{marked}
 use Rattle.operation.specs.Whole.{rest}
-use Rattle.clock.specs.Clock.{device_clock, image_after}
-use Rattle.clock.specs.Fold.{World, world}
+use Rattle.clock.specs.Fold.{World}
 use Rattle.clock.proofs.Kept.{device_clock_sound, image_length}
-use Rattle.demands.specs.History.{Event, clock, retime, after, ending, at_power_up, is_on, op_of, op_on, is_there, is_last, finishes, Fate, finished, cut, unfinished, fate, is_finished, Acceptance, sample_of, accepted, operations, allowed, all_allowed, contents, erased, whole, done_in_order}
+use Rattle.demands.specs.History.{Event, clock, retime, after, ending, at_power_up, is_on, op_of, op_on, is_there, finishes, fate, is_finished, sample_of, operations, allowed, all_allowed, contents, whole, done_in_order}
 use Rattle.demands.proofs.Counting.{Like, absent_rest}
 use Rattle.demands.proofs.Turns.{Turn, goes, ends, starts, cuts, turn, Good, refuses, steps}
 

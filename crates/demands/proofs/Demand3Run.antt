@@ -12,7 +12,6 @@ use Rattle.basics.proofs.Rules.{Answer, yes, no, ask, clash}
 use Rattle.basics.proofs.Table.{at}
 use Rattle.units.specs.Units.{times, times_fit}
 use Rattle.record.specs.declared.Controller.{Controller}
-use Rattle.record.specs.declared.Device.{Device}
 use Rattle.record.specs.Record.{is_absent}
 use Rattle.record.specs.Sample.{voltage, samples}
 use Rattle.part.specs.Fresh.{fresh_of}

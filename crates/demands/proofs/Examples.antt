@@ -1,5 +1,4 @@
 -- The ten examples, and those of LPC, by computation of the definitions. Assumes nothing.
-use mathlib.Core.Path.{◌≡◌, refl}
 use lib.Bits.{bit_and}
 use lib.ListN.{get_or}
 use lib.Seq.{get_or-set_same}

@@ -1,37 +1,35 @@
 -- What the bus's part of a clock does to one block: its operation stays, or one is accepted that was allowed.
 -- Assumes nothing.
-use Prim.Native.Nat.{ℕ, ◌+◌, ◌-◌, ◌*◌, ◌/◌, ◌%◌, ◌≤◌, ◌<◌}
+use Prim.Native.Nat.{ℕ, ◌%◌, ◌<◌}
 use mathlib.Core.Path.{◌≡◌, ◌∙◌, sym, refl, ap}
-use mathlib.Core.Bool.{Bool, true, false, cond, not}
-use mathlib.Core.List.{List, [], ◌∷◌, ◌++◌, append-nil}
+use mathlib.Core.Bool.{true, false}
+use mathlib.Core.List.{List, ◌++◌, append-nil}
 use native.Mathlib.Nat.{zero-add}
 use native.Mathlib.Omega.{arith}
-use lib.Bits.{bit_and}
 use lib.Dec.{eqb, ltb}
-use lib.ListN.{length, get_or, set, take, drop, replicate}
+use lib.ListN.{length, get_or, replicate}
 use lib.Seq.{drop-length}
-use borrow.Author.Tests.{ltb-true, eqb-true, eqb-false, eq-eqb, ne_eqb, not-true}
+use borrow.Author.Tests.{eqb-true, eqb-false, eq-eqb}
 use Rattle.basics.proofs.Rules.{Answer, yes, no, ask, clash}
 use Rattle.basics.proofs.All.{also, none}
 use Rattle.units.specs.declared.Times.{Times}
 use Rattle.units.specs.Units.{times_fit, in_clocks}
 use Rattle.record.specs.declared.Operation.{Operation}
 use Rattle.record.specs.declared.Controller.{Controller}
-use Rattle.record.specs.declared.Device.{Device}
-use Rattle.record.specs.Record.{is_absent, is_program, is_erase, with_pause, absent, block_of}
-use Rattle.record.specs.Sample.{tbl, wp, voltage}
+use Rattle.record.specs.Record.{is_absent, with_pause, absent, block_of}
+use Rattle.record.specs.Sample.{tbl, wp}
 use Rattle.basics.specs.Bytes.{filled}
 use Rattle.status.specs.declared.Condition.{Condition}
 use Rattle.status.specs.declared.Condition.TheVariants.{Ready, Running, Pausing, ProgramSuspended, EraseSuspended, ProgramInside}
 use Rattle.status.specs.Status.{condition_of}
 use Rattle.soundness.specs.Sound.{operation_fits, setup_kinds, controller_fits}
-use Rattle.soundness.proofs.Clauses.{Clauses, clauses}
+use Rattle.soundness.proofs.Clauses.{clauses}
 use Rattle.command.specs.declared.Action.{Action}
 use Rattle.command.specs.declared.Action.TheVariants.{Array, Status, Signature, Clear, Program, Erase, Pause, Resume, Nothing}
 use Rattle.permission.specs.declared.Judgement.{Judgement}
 use Rattle.permission.specs.declared.Judgement.TheVariants.{Granted, Voltage, Pin, Lock, Suspended}
 use Rattle.command.specs.Commands.{acted, action_of}
-use Rattle.permission.specs.Permission.{pin_low, into_suspended, judged}
+use Rattle.permission.specs.Permission.{pin_low, judged}
 use Rattle.permission.proofs.Granted.{Allowed, granted}
 use Rattle.command.specs.Setup.{accepted_of, starting, failing, answered, unconfirmed, written_of}
 use Rattle.command.proofs.Kept.{View, ready, running, pausing, program_suspended, erase_suspended, within, view, refuse, accepted_fits}

@@ -13,7 +13,7 @@ use Rattle.basics.specs.All.{all}
 use Rattle.basics.specs.Bytes.{filled}
 use Rattle.basics.proofs.Rules.{Answer, yes, no, ask, clash}
 use Rattle.units.specs.declared.Times.{Times}
-use Rattle.units.specs.Units.{clocks, in_clocks, times}
+use Rattle.units.specs.Units.{clocks, in_clocks}
 use Rattle.record.specs.declared.Operation.{Operation}
 use Rattle.record.specs.declared.Controller.{Controller}
 use Rattle.record.specs.declared.Device.{Device}

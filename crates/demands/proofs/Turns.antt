@@ -1,11 +1,11 @@
 -- What an event of a history does to one block: its operation goes on, ends, is accepted or is cut off.
 -- Assumes nothing.
-use Prim.Native.Nat.{ℕ, ◌*◌, ◌/◌, ◌%◌, ◌<◌}
+use Prim.Native.Nat.{ℕ, ◌<◌}
 use mathlib.Core.Path.{◌≡◌, ◌∙◌, sym, refl, ap}
-use mathlib.Core.Bool.{Bool, true, false, cond, not}
+use mathlib.Core.Bool.{Bool, true, false}
 use mathlib.Core.List.{List}
 use native.Mathlib.Omega.{arith}
-use lib.Dec.{eqb, ltb}
+use lib.Dec.{eqb}
 use lib.ListN.{length}
 use borrow.Author.Tests.{eqb-true, eqb-false}
 use Rattle.basics.proofs.Rules.{Answer, yes, no, ask, clash}
@@ -17,16 +17,15 @@ use Rattle.record.specs.declared.Device.{Device}
 use Rattle.record.specs.Record.{is_absent, is_erase, absent, block_of}
 use Rattle.record.specs.Sample.{rp, init, voltage, is_reset}
 use Rattle.effect.specs.Effect.{applied}
-use Rattle.part.specs.Fresh.{resting}
 use Rattle.soundness.specs.Sound.{frame_fits, controller_fits, sound_of}
 use Rattle.power.specs.Power.{times_set}
 use Rattle.soundness.proofs.Clauses.{Parts, parts, joined}
-use Rattle.operation.specs.Marks.{marked, marking}
+use Rattle.operation.specs.Marks.{marked}
 use Rattle.operation.specs.Clock.{active, is_still, slice_at, replaced, controller_clock}
 use Rattle.operation.specs.Reset.{marked_by, reset_of}
 use Rattle.operation.specs.Whole.{rest}
 use Rattle.operation.proofs.Facts.{fits, outer_fits_lem, inner_fits_lem}
-use Rattle.operation.proofs.Kept.{unset, controller_clock_kept}
+use Rattle.operation.proofs.Kept.{unset}
 use Rattle.operation.proofs.Marked.{marking_same, marking_other}
 use Rattle.bus.specs.declared.Asked.{Asked}
 use Rattle.bus.specs.declared.Asked.TheVariants.{Nothing as Silent, Read, Write}
@@ -35,15 +34,15 @@ use Rattle.command.proofs.Kept.{refuse}
 use Rattle.access.specs.Read.{is_array, array_address, lock_of}
 use Rattle.access.specs.Write.{reached_of}
 use Rattle.clock.specs.Clock.{reset_device, with_frame, answered_to, served_of, after_controller, device_clock, image_after}
-use Rattle.step.specs.Step.{step_number, stepped_of, stored_of}
+use Rattle.step.specs.Step.{stepped_of, stored_of}
 use Rattle.clock.specs.Fold.{World, world}
 use Rattle.step.proofs.Doors.{overvolted, accepted}
-use Rattle.clock.proofs.Kept.{controller_sound, device_clock_sound, image_length, applied_length}
+use Rattle.clock.proofs.Kept.{controller_sound, image_length}
 use Rattle.bus.proofs.Kept.{frame_kept}
 use Rattle.demands.specs.History.{Event, clock, retime, after, is_on, op_of, is_last, finishes, sample_of, allowed, contents, whole}
 use Rattle.demands.proofs.Block.{contents_length, contents_rest, rest_in}
-use Rattle.demands.proofs.Counting.{Like, itself, Counting, goes as counts_on, ends as counts-out, counting, on_here, off_absent, absent_rest}
-use Rattle.demands.proofs.Moving.{Alike, Fresh, Moving, stays, begins, unmoved, writing}
+use Rattle.demands.proofs.Counting.{Like, itself, Counting, goes as counts_on, ends as counts-out, counting, on_here, absent_rest}
+use Rattle.demands.proofs.Moving.{Alike, Moving, stays, begins, unmoved, writing}
 
 -- what an event does to a block; `fin`: its operation reaches its last clock, `ok`: pins, voltage and lock allow one
 pub data Turn (b : ℕ) (fin ok : Bool) (c n : Controller) (d e : List ℕ) : Type 0 where

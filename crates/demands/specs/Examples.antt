@@ -1,6 +1,6 @@
 -- Document 01, "Proved examples": the ten as one table, of FWH with straps 0; and document 02, #101: a second table, of LPC. The
 -- device is fresh, with times 1, 3, 2; the image is any image with 5Ah at F0005h, in block 15. Assumes nothing.
-use Rattle.std.specs.Prelude.{ℕ, zero, suc, ◌+◌, ◌-◌, ◌/◌, ◌%◌, ◌<◌, ◌≡◌, List, [], ◌∷◌, ◌++◌, map, length, get_or, take, drop, replicate}
+use Rattle.std.specs.Prelude.{ℕ, ◌+◌, ◌-◌, ◌/◌, ◌%◌, ◌<◌, ◌≡◌, List, [], ◌∷◌, ◌++◌, map, length, get_or, take, drop, replicate}
 use Rattle.units.specs.Units.{times}
 use Rattle.part.specs.Fresh.{fresh_of}
 use Rattle.status.specs.Status.{status_of}
