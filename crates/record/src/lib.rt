@@ -149,6 +149,7 @@ pub fn is_reset(sample: u16) -> bool
 }
 
 // Whether the frame line is high and nothing resets.
+#[tactic(auto, using(basics::proofs::Rules::cases), unfolding(crate::specs::Sample::is_idle_sample))]
 pub fn is_idle_sample(sample: u16) -> bool
     ensures { result ≡ is_idle_sample sample }
 {
