@@ -1,5 +1,5 @@
 -- `settle::wait`: behind an idle frame the controller's wait is the whole of it. Assumes nothing.
-use Rattle.std.proofs.Common.{◌∙◌, ◌-◌}
+use Rattle.std.proofs.Common.{◌∙◌, ◌-◌, arith}
 use borrow.Author.Tests.{eq-eqb}
 use Rattle.soundness.proofs.Clauses.{parts}
 use Rattle.settle.proofs.Idle.{waits}
@@ -11,5 +11,5 @@ forward-p-requires-clause-c_value c = (parts c.loop-count.d c.loop-count.invaria
 pub returns-then-d-eq0 : goal.returns-then-d-eq0
 returns-then-d-eq0 c =
     let w = c.loop-count in
-    let r = waits _ c.requires.sample_value (c.args.limit - w.count) w.count w.d w.image _ _ _ (parts w.d w.invariant.2).controller (eq-eqb w.d.frame.kind 0 c.if-d-eq0.true) c.forward-p.ensures in
+    let r = waits _ c.requires.sample_value (c.args.limit - w.count) w.count w.d w.image _ _ _ (parts w.d w.invariant.2).controller (eq-eqb w.d.frame.kind 0 (omega arith)) c.forward-p.ensures in
     rw (c.is_ready-then-d-eq0.ensures, c.with_controller-last.ensures) r ∙ w.invariant.3
