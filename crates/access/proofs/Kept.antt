@@ -4,13 +4,14 @@ use mathlib.Core.Bool.{true}
 use mathlib.Core.List.{List, [], ◌∷◌}
 use Prim.Native.Nat.{ℕ, zero, suc, ◌/◌, ◌%◌}
 use native.Mathlib.Omega.{arith}
+use Rattle.std.proofs.Common.{Option, Some, None}
 use lib.Dec.{eqb, ltb}
 use lib.ListN.{get_or, set}
 use borrow.Author.Tests.{lt-ltb}
 use Rattle.basics.proofs.Rules.{Answer, yes, no, ask, and_left, and_right, and_both}
 use Rattle.record.specs.declared.Device.{Device}
 use Rattle.part.specs.declared.Register.{Register}
-use Rattle.part.specs.declared.Register.TheVariants.{Lock, Inputs, MakerCode, DeviceCode, Missing}
+use Rattle.part.specs.declared.Register.TheVariants.{Lock, Inputs, MakerCode, DeviceCode}
 use Rattle.part.specs.Registers.{register_at}
 use Rattle.soundness.specs.Sound.{all_below, sound_of}
 use Rattle.soundness.proofs.Clauses.{Parts, parts, joined}
@@ -27,29 +28,29 @@ set_below n (x ∷ xs) (suc b) v e h =
     (set_below n xs b v (and_right (ltb x n) (all_below n xs) e) h)
 
 -- a lock register keeps bits 0-2 only
-stored_below : (locks : List ℕ) (byte : ℕ) (r : Register) → all_below 8 locks ≡ true → all_below 8 (stored locks byte r) ≡ true
-stored_below locks byte (Lock b) e = pick (ask (eqb (get_or locks b 0 / 2 % 2) 0))
+stored_below : (locks : List ℕ) (byte : ℕ) (r : Option Register) → all_below 8 locks ≡ true → all_below 8 (stored locks byte r) ≡ true
+stored_below locks byte (Some (Lock b)) e = pick (ask (eqb (get_or locks b 0 / 2 % 2) 0))
   where
-    pick : Answer (eqb (get_or locks b 0 / 2 % 2) 0) → all_below 8 (stored locks byte (Lock b)) ≡ true
+    pick : Answer (eqb (get_or locks b 0 / 2 % 2) 0) → all_below 8 (stored locks byte (Some (Lock b))) ≡ true
     pick (yes a) = rw a (set_below 8 locks b (byte % 8) e (lt-ltb (byte % 8) 8 (omega arith)))
     pick (no a) = rw a e
-stored_below locks byte Inputs e = e
-stored_below locks byte MakerCode e = e
-stored_below locks byte DeviceCode e = e
-stored_below locks byte Missing e = e
+stored_below locks byte (Some Inputs) e = e
+stored_below locks byte (Some MakerCode) e = e
+stored_below locks byte (Some DeviceCode) e = e
+stored_below locks byte None e = e
 
 locks_kept : (part straps : ℕ) (locks : List ℕ) (address byte : ℕ) → all_below 8 locks ≡ true → all_below 8 (lock_written part straps locks address byte) ≡ true
 unfolding lock_written
 locks_kept part straps locks address byte e = stored_below locks byte (register_at part straps address) e
 
-pub reached_kept : (d : Device) (sample address byte : ℕ) → sound_of d ≡ true → sound_of (reached_of d sample address byte).device ≡ true
+pub reached_kept : (d : Device) (sample address byte : ℕ) → sound_of d ≡ true → sound_of (reached_of d sample address byte).after ≡ true
 unfolding reached_of
 reached_kept d sample address byte e = pick (ask (is_array address))
   where
     p : Parts d
     p = parts d e
 
-    pick : Answer (is_array address) → sound_of (reached_of d sample address byte).device ≡ true
+    pick : Answer (is_array address) → sound_of (reached_of d sample address byte).after ≡ true
     pick (yes a) =
         rw a
         (joined _

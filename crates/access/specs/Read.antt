@@ -1,12 +1,12 @@
 -- Document 01, "Address bit 22 set means array" and "Array reads by mode", and document 02, #101 (000, Tables 9 and 12): the
 -- value that a read finds. Assumes nothing.
-use Rattle.std.specs.Prelude.{ℕ, ◌/◌, ◌%◌, Bool, cond, List, eqb, get_or}
+use Rattle.std.specs.Prelude.{ℕ, ◌/◌, ◌%◌, Bool, cond, Option, Some, None, List, eqb, get_or}
 use Rattle.record.specs.declared.Controller.{Controller}
 use Rattle.record.specs.declared.Device.{Device}
 use Rattle.record.specs.Record.{block_of}
 use Rattle.record.specs.Sample.{inputs}
 use Rattle.part.specs.declared.Register.{Register}
-use Rattle.part.specs.declared.Register.TheVariants.{Lock, Inputs, MakerCode, DeviceCode, Missing}
+use Rattle.part.specs.declared.Register.TheVariants.{Lock, Inputs, MakerCode, DeviceCode}
 use Rattle.part.specs.Parts.{device_code}
 use Rattle.part.specs.Registers.{register_at}
 use Rattle.status.specs.Status.{status_of}
@@ -25,12 +25,12 @@ lock_of locks address = get_or locks (block_of address) 0
 
 -- a register is known by all bits of its address (house): a lock as it stands, the inputs with FGPI0 in bit 0; on FWH
 -- alone maker 20h and device 2Dh; others read 00h
-abbrev pub standing : List ℕ → ℕ → Register → ℕ
-standing locks sample (Lock b) = get_or locks b 0
-standing locks sample Inputs = inputs sample
-standing locks sample MakerCode = 0x20
-standing locks sample DeviceCode = 0x2D
-standing locks sample Missing = 0
+abbrev pub standing : List ℕ → ℕ → Option Register → ℕ
+standing locks sample (Some (Lock b)) = get_or locks b 0
+standing locks sample (Some Inputs) = inputs sample
+standing locks sample (Some MakerCode) = 0x20
+standing locks sample (Some DeviceCode) = 0x2D
+standing locks sample None = 0
 
 unfoldable pub register_value : ℕ → ℕ → List ℕ → ℕ → ℕ → ℕ
 register_value part straps locks sample address = standing locks sample (register_at part straps address)

@@ -1,3 +1,3 @@
 pub mod All
 pub mod Bytes
-pub mod Numbers
+pub mod Refusals

@@ -1,11 +1,10 @@
 -- The heads of both parts, clock by clock while the frame line is high. Assumes nothing.
+use Rattle.std.proofs.lemmas.Bool.Decides.{nat_tests}
 use mathlib.Core.Path.{◌≡◌, refl}
 use mathlib.Core.Bool.{true, false, cond}
 use Prim.Native.Nat.{ℕ, ◌+◌, ◌/◌, ◌≤◌, ◌<◌}
 use native.Mathlib.Omega.{arith}
 use lib.Dec.{eqb}
-use borrow.Author.Tests.{ne_eqb, lt-ltb}
-use Rattle.basics.proofs.Rules.{Answer, yes, no, ask}
 use Rattle.record.specs.Record.{is_lpc, frame, idle}
 use Rattle.record.specs.Sample.{lines, frame_line}
 use Rattle.bus.specs.Frames.{shifted, headed, cycled, is_chosen, addressed, headed_lpc, next_of, frame_clock}
@@ -26,11 +25,7 @@ module _ (part straps s : ℕ) (high : eqb (frame_line s) 0 ≡ false) where
     -- clocks 3 to 9: a nibble of the address
     pub nibble_in : (c a : ℕ) → 2 ≤ c → c < 9 → frame_clock part straps (frame kind c 0 a) s ≡ frame kind (c + 1) 0 (shifted part a (lines s))
     unfolding frame_clock next_of headed headed_lpc addressed shifted
-    nibble_in c a l h = pick (ask (is_lpc part))
-      where
-        pick : Answer (is_lpc part) → frame_clock part straps (frame kind c 0 a) s ≡ frame kind (c + 1) 0 (shifted part a (lines s))
-        pick (yes p) = rw (high, k.there, lt-ltb c 10 (omega arith), p, k.known, lt-ltb c 9 h)
-        pick (no p) = rw (high, k.there, lt-ltb c 10 (omega arith), p, ne_eqb c 1 (λ e. omega arith), lt-ltb c 9 h)
+    nibble_in c a l h = grind (arith, nat_tests)
 
     -- FWH: the straps on clock 2, the size on clock 10
     module _ (p : is_lpc part ≡ false) where

@@ -1,5 +1,6 @@
 -- A frame that is broken off before its last data nibble gives no command: but for the frame, all is as on the same
 -- clocks with the bus idle. Of every device, sound or not. Assumes nothing.
+use Rattle.std.proofs.lemmas.Bool.Decides.{nat_tests}
 use mathlib.Core.Path.{◌≡◌, ◌∙◌, sym, refl, ap}
 use mathlib.Core.Bool.{Bool, true, false, cond, not, ◌&&◌, ◌||◌}
 use mathlib.Core.List.{List, [], ◌∷◌, ◌++◌, map}
@@ -7,7 +8,7 @@ use Prim.Native.Nat.{ℕ, suc, ◌+◌, ◌/◌, ◌≤◌}
 use native.Mathlib.Omega.{arith}
 use lib.Dec.{eqb, ltb}
 use lib.ListN.{length, get_or}
-use borrow.Author.Tests.{ltb-false, eqb-true, ne_eqb, not-true}
+use borrow.Author.Tests.{eqb-true, not-true}
 use Rattle.basics.proofs.Rules.{Answer, yes, no, ask, clash, and_left, and_right}
 use Rattle.record.specs.declared.Frame.{Frame}
 use Rattle.record.specs.declared.Device.{Device}
@@ -17,7 +18,7 @@ use Rattle.effect.specs.Effect.{applied}
 use Rattle.operation.specs.Clock.{controller_clock}
 use Rattle.bus.specs.declared.Asked.{Asked}
 use Rattle.bus.specs.declared.Asked.TheVariants.{Nothing as Silent, Read, Write}
-use Rattle.bus.specs.Frames.{begun, headed, cycled, is_chosen, addressed, headed_lpc, read_on, write_on, next_of, frame_clock, asked_of}
+use Rattle.bus.specs.Frames.{begun, headed, cycled, addressed, headed_lpc, read_on, write_on, next_of, frame_clock, asked_of}
 use Rattle.clock.specs.Clock.{reset_device, with_frame, answered_to, served_of, after_controller, image_after, device_clock}
 use Rattle.clock.specs.Fold.{World, world, onward, through}
 use Rattle.clock.proofs.Fixed.{fixed_onward}
@@ -98,26 +99,11 @@ module _ (test : World → ℕ → Bool) (s : ℕ) (ss : List ℕ) (w : World) (
 -- a raised sample resets where the sample does, and its frame line is high
 raised_reset : (s : ℕ) → is_reset (raised s) ≡ is_reset s
 unfolding raised is_reset
-raised_reset s = pick (ask (eqb (frame_line s) 0))
-  where
-    pick : Answer (eqb (frame_line s) 0) → is_reset (raised s) ≡ is_reset s
-    pick (yes a) =
-        let h = eqb-true (frame_line s) 0 a in
-        let r : (s + 16) / 32 ≡ s / 32 = omega arith in
-        let i : (s + 16) / 64 ≡ s / 64 = omega arith in
-        rw (a, r, i)
-    pick (no a) = rw a
+raised_reset s = grind (arith, nat_tests)
 
 raised_high : (s : ℕ) → eqb (frame_line (raised s)) 0 ≡ false
 unfolding raised
-raised_high s = pick (ask (eqb (frame_line s) 0))
-  where
-    pick : Answer (eqb (frame_line s) 0) → eqb (frame_line (raised s)) 0 ≡ false
-    pick (yes a) =
-        let h = eqb-true (frame_line s) 0 a in
-        let r : frame_line (s + 16) ≡ 1 = omega arith in
-        rw (a, r)
-    pick (no a) = rw (a, a)
+raised_high s = grind (arith, nat_tests)
 
 -- an idle bus stays idle
 stays : (part straps s : ℕ) → frame_clock part straps idle (raised s) ≡ idle
@@ -131,7 +117,7 @@ framed w s = frame_clock w.device.part w.device.straps w.device.frame s
 -- but for the frame, a clock on which no byte is written is one with the bus idle
 answered_silent : (a : Asked) (d : Device) (image : List ℕ) (s : ℕ)
     → is_written a ≡ false
-    → with_frame (answered_to a d image s).device idle ≡ with_frame d idle
+    → with_frame (answered_to a d image s).after idle ≡ with_frame d idle
 answered_silent Silent d image s e = refl
 answered_silent (Read address) d image s e = refl
 answered_silent (Write address byte) d image s e = clash (sym e)
@@ -166,36 +152,16 @@ stops f = record { clock = omega arith; kind = λ e. refl }
 
 headed_follows : (straps : ℕ) (f : Frame) (n : ℕ) → Follows f (headed straps f n)
 unfolding headed
-headed_follows straps f n = pick (ask (eqb f.clock 1)) (ask (eqb n straps)) (ask (ltb f.clock 9)) (ask (eqb n 0))
-  where
-    pick : Answer (eqb f.clock 1) → Answer (eqb n straps) → Answer (ltb f.clock 9) → Answer (eqb n 0) → Follows f (headed straps f n)
-    pick (yes a) (yes b) c d = let h = eqb-true f.clock 1 a in rw (a, b) (goes f 2 _ _ (omega arith))
-    pick (yes a) (no b) c d = rw (a, b) (stops f)
-    pick (no a) b (yes c) d = rw (a, c) (goes f (f.clock + 1) _ _ (omega arith))
-    pick (no a) b (no c) (yes d) = let h = ltb-false f.clock 9 c in rw (a, c, d) (goes f 10 _ _ (omega arith))
-    pick (no a) b (no c) (no d) = rw (a, c, d) (stops f)
+headed_follows straps f n = grind (arith, nat_tests)
 
 -- LPC's head, of a frame that is there
 cycled_follows : (f : Frame) (n : ℕ) → is_begun f ≡ true → Follows f (cycled f n)
 unfolding cycled
-cycled_follows f n g = pick (ask (eqb (n / 2) 2)) (ask (eqb (n / 2) 3))
-  where
-    never_not : {A : Type 0} → may_write f ≡ false → A
-    never_not e = clash (sym e ∙ or_right (is_write f) (is_begun f) g)
-
-    pick : Answer (eqb (n / 2) 2) → Answer (eqb (n / 2) 3) → Follows f (cycled f n)
-    pick (yes a) b = rw a (record { clock = omega arith; kind = λ e. never_not e })
-    pick (no a) (yes b) = rw (a, b) (record { clock = omega arith; kind = λ e. never_not e })
-    pick (no a) (no b) = rw (a, b) (stops f)
+cycled_follows f n g = grind (arith, nat_tests)
 
 addressed_follows : (straps : ℕ) (f : Frame) (a : ℕ) → Follows f (addressed straps f a)
 unfolding addressed
-addressed_follows straps f a = pick (ask (ltb f.clock 9)) (ask (is_chosen straps a))
-  where
-    pick : Answer (ltb f.clock 9) → Answer (is_chosen straps a) → Follows f (addressed straps f a)
-    pick (yes c) d = rw c (goes f (f.clock + 1) _ _ (omega arith))
-    pick (no c) (yes d) = let h = ltb-false f.clock 9 c in rw (c, d) (goes f 10 _ _ (omega arith))
-    pick (no c) (no d) = rw (c, d) (stops f)
+addressed_follows straps f a = grind (arith, nat_tests)
 
 headed_lpc_follows : (straps : ℕ) (f : Frame) (n : ℕ) → Follows f (headed_lpc straps f n)
 unfolding headed_lpc
@@ -207,21 +173,11 @@ headed_lpc_follows straps f n = pick (ask (is_begun f))
 
 read_follows : (f : Frame) → Follows f (read_on f)
 unfolding read_on
-read_follows f = pick (ask (ltb f.clock 18))
-  where
-    pick : Answer (ltb f.clock 18) → Follows f (read_on f)
-    pick (yes a) = rw a (goes f (f.clock + 1) _ _ (omega arith))
-    pick (no a) = rw a (stops f)
+read_follows f = grind (arith, nat_tests)
 
 write_follows : (f : Frame) (n : ℕ) → Follows f (write_on f n)
 unfolding write_on
-write_follows f n = pick (ask (eqb f.clock 10)) (ask (eqb f.clock 11)) (ask (ltb f.clock 16))
-  where
-    pick : Answer (eqb f.clock 10) → Answer (eqb f.clock 11) → Answer (ltb f.clock 16) → Follows f (write_on f n)
-    pick (yes a) b c = let h = eqb-true f.clock 10 a in rw a (goes f 11 _ _ (omega arith))
-    pick (no a) (yes b) c = let h = eqb-true f.clock 11 b in rw (a, b) (goes f 12 _ _ (omega arith))
-    pick (no a) (no b) (yes c) = rw (a, b, c) (goes f (f.clock + 1) _ _ (omega arith))
-    pick (no a) (no b) (no c) = rw (a, b, c) (stops f)
+write_follows f n = grind (arith, nat_tests)
 
 pub follows : (part straps : ℕ) (f : Frame) (s : ℕ) → frame_line s ≡ 1 → Follows f (frame_clock part straps f s)
 unfolding frame_clock next_of
@@ -241,14 +197,7 @@ writeless_next n part straps f s e (other h) = other ((follows part straps f s e
 -- where the frame line is low, a frame is at clock 1 at most
 begun_writeless : (n part nibble : ℕ) → n ≤ 10 → Writeless n (begun part nibble)
 unfolding begun
-begun_writeless n part nibble h = pick (ask (is_lpc part)) (ask (eqb nibble 0)) (ask (eqb nibble 13)) (ask (eqb nibble 14))
-  where
-    pick : Answer (is_lpc part) → Answer (eqb nibble 0) → Answer (eqb nibble 13) → Answer (eqb nibble 14) → Writeless n (begun part nibble)
-    pick (yes l) (yes z) a b = rw (l, z) (before (omega arith))
-    pick (yes l) (no z) a b = rw (l, z) (other refl)
-    pick (no l) z (yes a) b = rw (l, a) (other refl)
-    pick (no l) z (no a) (yes b) = rw (l, a, b) (before (omega arith))
-    pick (no l) z (no a) (no b) = rw (l, a, b) (other refl)
+begun_writeless n part nibble h = grind (arith, nat_tests)
 
 pub writeless_low : (n part straps : ℕ) (f : Frame) (s : ℕ) → frame_line s ≡ 0 → n ≤ 10 → Writeless n (frame_clock part straps f s)
 unfolding frame_clock
@@ -262,14 +211,7 @@ writeless_read n part straps f s l e h = rw (e, l, h) (other refl)
 -- a byte is written on clock 12 of a write
 writeless_asked : (n : ℕ) (f : Frame) → Writeless n f → is_written (asked_of f) ≡ false
 unfolding asked_of
-writeless_asked n f = pick (ask (is_read f)) (ask (eqb f.clock 15)) (ask (is_write f))
-  where
-    pick : Answer (is_read f) → Answer (eqb f.clock 15) → Answer (is_write f) → Writeless n f → is_written (asked_of f) ≡ false
-    pick (yes a) (yes b) c k = rw (a, b)
-    pick (yes a) (no b) c k = rw (a, b)
-    pick (no a) b (no c) k = rw (a, c)
-    pick (no a) b (yes c) (before h) = rw (a, c, ne_eqb f.clock 12 (λ e. omega arith))
-    pick (no a) b (yes c) (other h) = clash (sym h ∙ or_left (is_write f) (is_begun f) c)
+writeless_asked n f = grind (arith, nat_tests)
 
 pub writeless_writes : (n : ℕ) (w : World) (s : ℕ) → Writeless n (framed w s) → writes w s ≡ false
 unfolding writes
@@ -283,7 +225,7 @@ writeless_writes n w s k = pick (ask (is_reset s))
 answered_writeless : (n : ℕ) (a : Asked) (d : Device) (image : List ℕ) (s : ℕ)
     → Writeless n d.frame
     → is_written a ≡ false
-    → Writeless n (answered_to a d image s).device.frame
+    → Writeless n (answered_to a d image s).after.frame
 answered_writeless n Silent d image s k e = k
 answered_writeless n (Read address) d image s (before h) e = before h
 answered_writeless n (Read address) d image s (other h) e = other h

@@ -1,18 +1,19 @@
 -- On a clock without events device and image stay as they are, and nothing is driven. Assumes nothing.
+use native.Mathlib.Omega.{arith}
+use Rattle.std.proofs.lemmas.Bool.Decides.{nat_tests}
 use mathlib.Core.Path.{◌≡◌}
 use mathlib.Core.Bool.{true, false}
 use mathlib.Core.List.{List}
 use Prim.Native.Nat.{ℕ}
 use lib.Dec.{eqb}
 use borrow.Author.Tests.{eqb-true}
-use Rattle.basics.proofs.Rules.{Answer, yes, no, ask, clash}
 use Rattle.record.specs.declared.Device.{Device}
 use Rattle.record.specs.Record.{is_idle}
 use Rattle.record.specs.Sample.{frame_line, is_reset}
 use Rattle.effect.specs.declared.Effect.TheVariants.{Nothing}
 use Rattle.operation.specs.Clock.{active, is_still}
 use Rattle.operation.proofs.Facts.{still_clocked}
-use Rattle.command.specs.declared.Verdict.TheVariants.{Unjudged}
+use Rattle.std.specs.Prelude.{None}
 use Rattle.bus.specs.Frames.{frame_clock}
 use Rattle.bus.proofs.Laws.{idle_silent}
 use Rattle.clock.specs.Clock.{served_of, happened, device_clocked, image_after, device_clock}
@@ -25,15 +26,10 @@ record Eventless (d : Device) (sample : ℕ) : Type 0 where
 
 eventlessly : (d : Device) (sample : ℕ) → is_eventless d sample ≡ true → Eventless d sample
 unfolding is_eventless
-eventlessly d sample e = pick (ask (eqb (frame_line sample) 0)) (ask (is_idle d.frame))
-  where
-    pick : Answer (eqb (frame_line sample) 0) → Answer (is_idle d.frame) → Eventless d sample
-    pick (yes h) i = clash (rw h at e)
-    pick (no h) (yes i) = record { high = h; idle = i; still = rw (h, i) at e }
-    pick (no h) (no i) = clash (rw (h, i) at e)
+eventlessly d sample e = grind (arith, nat_tests)
 
 module _ (d : Device) (image : List ℕ) (sample : ℕ) (r : is_reset sample ≡ false) (e : is_eventless d sample ≡ true) where
-  pub eventless_device : device_clocked d 0 (happened Nothing Unjudged false false) ≡ device_clock d image sample
+  pub eventless_device : device_clocked d 0 (happened Nothing None false false) ≡ device_clock d image sample
   unfolding device_clock served_of frame_clock
   eventless_device =
       let c = eventlessly d sample e in
@@ -43,3 +39,5 @@ module _ (d : Device) (image : List ℕ) (sample : ℕ) (r : is_reset sample ≡
   pub eventless_image : image ≡ image_after d image sample
   unfolding image_after
   eventless_image = rw (r, still_clocked d.controller (eventlessly d sample e).still)
+
+pub ruleset eventless = (eventless_device, eventless_image)

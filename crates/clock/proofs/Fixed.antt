@@ -20,7 +20,7 @@ pub record Fixed (d e : Device) : Type 0 where
   pub straps : e.straps ≡ d.straps
   pub times : e.times ≡ d.times
 
-reached_fixed : (d : Device) (sample address byte : ℕ) → Fixed d (reached_of d sample address byte).device
+reached_fixed : (d : Device) (sample address byte : ℕ) → Fixed d (reached_of d sample address byte).after
 unfolding reached_of
 reached_fixed d sample address byte =
     elim (ask (is_array address)) [
@@ -28,7 +28,7 @@ reached_fixed d sample address byte =
       | no a ↦ rw a (record { part = refl; straps = refl; times = refl })
     ]
 
-answered_fixed : (a : Asked) (d : Device) (late : List ℕ) (sample : ℕ) → Fixed d (answered_to a d late sample).device
+answered_fixed : (a : Asked) (d : Device) (late : List ℕ) (sample : ℕ) → Fixed d (answered_to a d late sample).after
 answered_fixed Silent d late sample = record { part = refl; straps = refl; times = refl }
 answered_fixed (Read address) d late sample = record { part = refl; straps = refl; times = refl }
 answered_fixed (Write address byte) d late sample = reached_fixed d sample address byte

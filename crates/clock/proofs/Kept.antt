@@ -35,13 +35,13 @@ framed d f e h =
     let p = parts d e in
     joined _ (record { straps = p.straps; locks = p.locks; times = p.times; frame = h; controller = p.controller })
 
-answered_sound : (a : Asked) (d : Device) (image : List ℕ) (sample : ℕ) → sound_of d ≡ true → sound_of (answered_to a d image sample).device ≡ true
+answered_sound : (a : Asked) (d : Device) (image : List ℕ) (sample : ℕ) → sound_of d ≡ true → sound_of (answered_to a d image sample).after ≡ true
 answered_sound Silent d image sample e = e
 answered_sound (Read address) d image sample e =
     framed d (with_byte d.frame _) e (byte_fits d.part d.frame _ (parts d e).frame)
 answered_sound (Write address byte) d image sample e = reached_kept d sample address byte e
 
-pub served_sound : (d : Device) (image : List ℕ) (sample : ℕ) → sound_of d ≡ true → sound_of (served_of d image sample).device ≡ true
+pub served_sound : (d : Device) (image : List ℕ) (sample : ℕ) → sound_of d ≡ true → sound_of (served_of d image sample).after ≡ true
 unfolding served_of
 served_sound d image sample e =
     answered_sound (asked_of (frame_clock d.part d.straps d.frame sample)) (with_frame d (frame_clock d.part d.straps d.frame sample)) image sample

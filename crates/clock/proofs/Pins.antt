@@ -1,32 +1,33 @@
 -- Where each judgement falls out alike, operations, marks and array do not hang on TBL, WP, the voltage class, the inputs
 -- or the lock registers. Of every device, sound or not. Assumes nothing.
+use Rattle.std.proofs.lemmas.Bool.Decides.{nat_tests}
 use mathlib.Core.Path.{◌≡◌, ◌∙◌, sym, refl, ap, subst}
 use mathlib.Core.Bool.{Bool, true, false}
 use mathlib.Core.List.{List}
 use Prim.Native.Nat.{ℕ, ◌%◌}
 use native.Mathlib.Omega.{arith}
+use Rattle.std.specs.Prelude.{Option, None, Result}
 use lib.Dec.{eqb, ltb}
 use borrow.Author.Tests.{ltb-true, eq-eqb}
-use Rattle.basics.proofs.Rules.{Answer, yes, no, ask, clash}
+use Rattle.basics.proofs.Rules.{Answer, yes, no, ask}
 use Rattle.units.specs.declared.Times.{Times}
 use Rattle.record.specs.declared.Frame.{Frame}
 use Rattle.record.specs.declared.Controller.{Controller}
 use Rattle.record.specs.declared.Device.{Device}
-use Rattle.record.specs.Record.{device, is_idle, is_read, is_write, is_absent}
+use Rattle.record.specs.Record.{device, is_idle, is_read, is_absent}
 use Rattle.record.specs.Sample.{lines, frame_line, rp, init, is_reset}
 use Rattle.effect.specs.Effect.{applied}
 use Rattle.soundness.specs.Sound.{controller_fits, sound_of}
 use Rattle.soundness.proofs.Clauses.{parts}
-use Rattle.operation.specs.declared.ControllerClocked.{ControllerClocked}
+use Rattle.operation.specs.declared.Counted.{Counted}
 use Rattle.operation.specs.Clock.{active, is_still, replaced, controller_clock}
 use Rattle.operation.proofs.Facts.{still_clocked}
 use Rattle.operation.proofs.Kept.{unset, unset_inside}
 use Rattle.bus.specs.declared.Asked.{Asked}
 use Rattle.bus.specs.declared.Asked.TheVariants.{Nothing as Silent, Read, Write}
 use Rattle.bus.specs.Frames.{headed, cycled, addressed, headed_lpc, read_on, next_of, frame_clock, asked_of}
-use Rattle.command.specs.declared.Verdict.{Verdict}
-use Rattle.command.specs.declared.Verdict.TheVariants.{Unjudged}
-use Rattle.command.specs.declared.Written.{Written}
+use Rattle.permission.specs.declared.Denial.{Denial}
+use Rattle.command.specs.declared.Judged.{Judged}
 use Rattle.command.specs.Setup.{written_of}
 use Rattle.command.proofs.Laws.{verdict_bits, command_alone, written_alike, written_marks, written_outer}
 use Rattle.access.specs.Read.{is_array, array_address}
@@ -39,7 +40,7 @@ unfoldable pub without_pins : ℕ → ℕ
 without_pins sample = sample % 128
 
 -- the judgement of a clock
-abbrev pub verdict_on : World → ℕ → Verdict
+abbrev pub verdict_on : World → ℕ → Option (Result Unit Denial)
 verdict_on w sample = (device_clock w.device w.image sample).happened.verdict
 
 -- equal frames, but for the byte that a read in progress has found
@@ -112,13 +113,7 @@ is_fixed (Write address byte) = false
 
 fixed_read : (f : Frame) → is_fixed (asked_of f) ≡ true → is_read f ≡ true
 unfolding asked_of
-fixed_read f = pick (ask (is_read f)) (ask (is_write f)) (ask (eqb f.clock 12))
-  where
-    pick : Answer (is_read f) → Answer (is_write f) → Answer (eqb f.clock 12) → is_fixed (asked_of f) ≡ true → is_read f ≡ true
-    pick (yes a) b c e = a
-    pick (no a) (yes b) (yes c) e = clash (rw (a, b, c) at e)
-    pick (no a) (yes b) (no c) e = clash (rw (a, b, c) at e)
-    pick (no a) (no b) c e = clash (rw (a, b) at e)
+fixed_read f = grind (arith, nat_tests)
 
 fixed_alike : (f g : Frame) (x y : ℕ) → is_read f ≡ true → FramesAlike f g → FramesAlike (with_byte f x) (with_byte g y)
 fixed_alike f g x y r same = reading r y
@@ -133,13 +128,13 @@ module _ (part straps : ℕ) (l m : List ℕ) (ts : Times) (f g : Frame) (c : Co
 
   reached_alike : (address byte : ℕ)
       → verdict_bits (reached_of one s address byte).verdict ≡ verdict_bits (reached_of two t address byte).verdict
-      → Alike (world (reached_of one s address byte).device image) (world (reached_of two t address byte).device image)
+      → Alike (world (reached_of one s address byte).after image) (world (reached_of two t address byte).after image)
   unfolding reached_of
   reached_alike address byte = pick (ask (is_array address))
     where
       pick : Answer (is_array address)
           → verdict_bits (reached_of one s address byte).verdict ≡ verdict_bits (reached_of two t address byte).verdict
-          → Alike (world (reached_of one s address byte).device image) (world (reached_of two t address byte).device image)
+          → Alike (world (reached_of one s address byte).after image) (world (reached_of two t address byte).after image)
       pick (yes a) e =
           let q = written_alike c ts s t _ _ (array_address address) byte (rw a at e) in
           rw a (record { part = refl; straps = refl; times = refl; frames = h; controllers = q; images = refl })
@@ -148,7 +143,7 @@ module _ (part straps : ℕ) (l m : List ℕ) (ts : Times) (f g : Frame) (c : Co
   answered_alike : (a : Asked)
       → (is_fixed a ≡ true → is_read f ≡ true)
       → verdict_bits (answered_to a one image s).verdict ≡ verdict_bits (answered_to a two image t).verdict
-      → Alike (world (answered_to a one image s).device image) (world (answered_to a two image t).device image)
+      → Alike (world (answered_to a one image s).after image) (world (answered_to a two image t).after image)
   answered_alike Silent r e = record { part = refl; straps = refl; times = refl; frames = h; controllers = refl; images = refl }
   answered_alike (Read address) r e =
       record { part = refl; straps = refl; times = refl; frames = fixed_alike f g _ _ (r refl) h; controllers = refl; images = refl }
@@ -187,7 +182,7 @@ once part straps l m ts f g c image s t e h = pick (ask (is_reset s))
         (record { part = refl; straps = refl; times = refl; frames = same; controllers = refl; images = refl })
     pick (no a) n =
         rw (← same_reset s t e, ← same_framed part straps g s t e, a, asked_alike (frame_clock part straps f s) (frame_clock part straps g s) p)
-        (answered_alike part straps l m ts (frame_clock part straps f s) (frame_clock part straps g s) (controller_clock c).controller (applied (controller_clock c).effect image) s t p
+        (answered_alike part straps l m ts (frame_clock part straps f s) (frame_clock part straps g s) (controller_clock c).after (applied (controller_clock c).effect image) s t p
         (asked_of (frame_clock part straps f s)) (fixed_read (frame_clock part straps f s))
         (ap verdict_bits (sym (served_verdict (device part straps l ts f c) image s a)) ∙ n ∙ ap verdict_bits (seen a)))
 
@@ -231,33 +226,28 @@ none_set : (s : ℕ) → ltb s 1 ≡ true → eqb s 0 ≡ true
 none_set s e = let h = ltb-true s 1 e in eq-eqb s 0 (omega arith)
 
 -- the controller's clock keeps the setup
-clocked_setup : (c : Controller) → (controller_clock c).controller.setup ≡ c.setup
+clocked_setup : (c : Controller) → (controller_clock c).after.setup ≡ c.setup
 unfolding controller_clock replaced
-clocked_setup c = pick (ask (is_still (active c))) (ask (is_absent c.inner))
-  where
-    pick : Answer (is_still (active c)) → Answer (is_absent c.inner) → (controller_clock c).controller.setup ≡ c.setup
-    pick (yes m) i = rw m
-    pick (no m) (yes i) = rw (m, i)
-    pick (no m) (no i) = rw (m, i)
+clocked_setup c = grind (arith, nat_tests)
 
 -- a write behind the controller's clock
 standing_written : (c : Controller) (ts : Times) (s t l m a byte : ℕ)
     → controller_fits c ≡ true
-    → Standing c (written_of (controller_clock c).controller ts s l a byte).controller (written_of (controller_clock c).controller ts t m a byte).controller
+    → Standing c (written_of (controller_clock c).after ts s l a byte).after (written_of (controller_clock c).after ts t m a byte).after
 standing_written c ts s t l m a byte f = pick (ask (is_still (active c)))
   where
     k : Controller
-    k = (controller_clock c).controller
+    k = (controller_clock c).after
 
-    whole : ltb c.setup 1 ≡ true → (written_of k ts s l a byte).controller ≡ (written_of k ts t m a byte).controller
+    whole : ltb c.setup 1 ≡ true → (written_of k ts s l a byte).after ≡ (written_of k ts t m a byte).after
     whole e =
-        ap (λ (w : Written). w.controller)
+        ap (λ (w : Judged Controller). w.after)
         (command_alone k ts ts s t l m a a byte (ap (λ (x : ℕ). eqb x 0) (clocked_setup c) ∙ none_set c.setup e))
 
-    pick : Answer (is_still (active c)) → Standing c (written_of k ts s l a byte).controller (written_of k ts t m a byte).controller
+    pick : Answer (is_still (active c)) → Standing c (written_of k ts s l a byte).after (written_of k ts t m a byte).after
     pick (no n) = same_standing c _ _ (whole (unset c f n))
     pick (yes y) =
-        let q : k ≡ c = ap (λ (x : ControllerClocked). x.controller) (still_clocked c y) in
+        let q : k ≡ c = ap (λ (x : Counted Controller). x.after) (still_clocked c y) in
         record {
           outer = λ o. written_outer k ts s t l m a byte (ap (λ (x : Controller). is_absent x.outer) q ∙ o);
           inner = λ i. ap (λ (x : Controller). x.inner) (whole (unset_inside c f i));
@@ -268,14 +258,14 @@ standing_written c ts s t l m a byte f = pick (ask (is_still (active c)))
 module _ (d : Device) (image locks : List ℕ) (s t : ℕ) (e : without_pins s ≡ without_pins t) where
   module _ (f : sound_of d ≡ true) where
     answered_standing : (a : Asked) (g : Frame) (late : List ℕ)
-        → Standing d.controller (answered_to a (with_frame (after_controller d) g) late s).device.controller (answered_to a (with_frame (after_controller (with_locks d locks)) g) late t).device.controller
+        → Standing d.controller (answered_to a (with_frame (after_controller d) g) late s).after.controller (answered_to a (with_frame (after_controller (with_locks d locks)) g) late t).after.controller
     unfolding reached_of
     answered_standing Silent g late = same_standing d.controller _ _ refl
     answered_standing (Read address) g late = same_standing d.controller _ _ refl
     answered_standing (Write address byte) g late = pick (ask (is_array address))
       where
         pick : Answer (is_array address)
-            → Standing d.controller (answered_to (Write address byte) (with_frame (after_controller d) g) late s).device.controller (answered_to (Write address byte) (with_frame (after_controller (with_locks d locks)) g) late t).device.controller
+            → Standing d.controller (answered_to (Write address byte) (with_frame (after_controller d) g) late s).after.controller (answered_to (Write address byte) (with_frame (after_controller (with_locks d locks)) g) late t).after.controller
         pick (yes a) = rw a (standing_written d.controller d.times s t _ _ (array_address address) byte (parts d f).controller)
         pick (no a) = rw a (same_standing d.controller _ _ refl)
 
@@ -292,20 +282,20 @@ module _ (d : Device) (image locks : List ℕ) (s t : ℕ) (e : without_pins s �
 -- outside a setup, of any device: a clock of its controller hangs on no pin and no lock register, nor on its times
 module _ (part straps : ℕ) (l m : List ℕ) (ts us : Times) (f : Frame) (c : Controller) (image : List ℕ) (s t : ℕ) (n : eqb c.setup 0 ≡ true) where
   answered_alone : (a : Asked) (g : Frame) (late : List ℕ)
-      → (answered_to a (with_frame (after_controller (device part straps l ts f c)) g) late s).device.controller
-      ≡ (answered_to a (with_frame (after_controller (device part straps m us f c)) g) late t).device.controller
+      → (answered_to a (with_frame (after_controller (device part straps l ts f c)) g) late s).after.controller
+      ≡ (answered_to a (with_frame (after_controller (device part straps m us f c)) g) late t).after.controller
   unfolding reached_of
   answered_alone Silent g late = refl
   answered_alone (Read address) g late = refl
   answered_alone (Write address byte) g late = pick (ask (is_array address))
     where
       pick : Answer (is_array address)
-          → (answered_to (Write address byte) (with_frame (after_controller (device part straps l ts f c)) g) late s).device.controller
-          ≡ (answered_to (Write address byte) (with_frame (after_controller (device part straps m us f c)) g) late t).device.controller
+          → (answered_to (Write address byte) (with_frame (after_controller (device part straps l ts f c)) g) late s).after.controller
+          ≡ (answered_to (Write address byte) (with_frame (after_controller (device part straps m us f c)) g) late t).after.controller
       pick (yes a) =
           rw a
-          (ap (λ (w : Written). w.controller)
-          (command_alone (controller_clock c).controller ts us s t _ _ _ _ byte (ap (λ (x : ℕ). eqb x 0) (clocked_setup c) ∙ n)))
+          (ap (λ (w : Judged Controller). w.after)
+          (command_alone (controller_clock c).after ts us s t _ _ _ _ byte (ap (λ (x : ℕ). eqb x 0) (clocked_setup c) ∙ n)))
       pick (no a) = rw a
 
   pub alone : without_pins s ≡ without_pins t
@@ -322,25 +312,25 @@ module _ (part straps : ℕ) (l m : List ℕ) (ts us : Times) (f : Frame) (c : C
 
 -- no judgement falls on a clock on which an operation counts: no setup stands beside it
 module _ (d : Device) (image : List ℕ) (s : ℕ) (f : sound_of d ≡ true) (m : is_still (active d.controller) ≡ false) where
-  unset_now : eqb (controller_clock d.controller).controller.setup 0 ≡ true
+  unset_now : eqb (controller_clock d.controller).after.setup 0 ≡ true
   unset_now =
       ap (λ (x : ℕ). eqb x 0) (clocked_setup d.controller)
       ∙ none_set d.controller.setup (unset d.controller (parts d f).controller m)
 
-  answered_unjudged : (a : Asked) (g : Frame) (late : List ℕ) → (answered_to a (with_frame (after_controller d) g) late s).verdict ≡ Unjudged
+  answered_unjudged : (a : Asked) (g : Frame) (late : List ℕ) → (answered_to a (with_frame (after_controller d) g) late s).verdict ≡ None
   unfolding reached_of written_of
   answered_unjudged Silent g late = refl
   answered_unjudged (Read address) g late = refl
   answered_unjudged (Write address byte) g late = pick (ask (is_array address))
     where
-      pick : Answer (is_array address) → (answered_to (Write address byte) (with_frame (after_controller d) g) late s).verdict ≡ Unjudged
+      pick : Answer (is_array address) → (answered_to (Write address byte) (with_frame (after_controller d) g) late s).verdict ≡ None
       pick (yes a) = rw (a, unset_now)
       pick (no a) = rw a
 
-  pub unjudged : verdict_on (world d image) s ≡ Unjudged
+  pub unjudged : verdict_on (world d image) s ≡ None
   unfolding device_clock
   unjudged = pick (ask (is_reset s))
     where
-      pick : Answer (is_reset s) → verdict_on (world d image) s ≡ Unjudged
+      pick : Answer (is_reset s) → verdict_on (world d image) s ≡ None
       pick (yes r) = rw (r, verdict_on)
       pick (no r) = served_verdict d image s r ∙ answered_unjudged (asked_of (frame_clock d.part d.straps d.frame s)) (frame_clock d.part d.straps d.frame s) (applied (controller_clock d.controller).effect image)

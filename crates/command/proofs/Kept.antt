@@ -1,6 +1,7 @@
 -- A byte written to the array takes a sound controller to a sound controller. Assumes nothing.
 use mathlib.Core.Path.{◌≡◌, ◌∙◌, sym, refl}
 use mathlib.Core.Bool.{Bool, true, false, cond}
+use Rattle.std.specs.Prelude.{Result, Ok, Err}
 use Prim.Native.Nat.{ℕ, ◌<◌}
 use native.Mathlib.Omega.{arith}
 use lib.Dec.{eqb, ltb}
@@ -8,7 +9,10 @@ use lib.Bits.{bit_and, bit_or, and_le_r}
 use borrow.Author.Tests.{ltb-true, eqb-true, eqb-false, eq-eqb, lt-ltb}
 use Rattle.basics.proofs.Rules.{Answer, yes, no, ask, clash}
 use Rattle.basics.proofs.All.{holds, also, none}
-use Rattle.basics.proofs.Table.{at}
+use Rattle.basics.proofs.Table.{from, at, at2}
+use mathlib.Core.List.{[]}
+use Rattle.std.proofs.lemmas.Bool.Decides.{nat_tests}
+use lib.ListN.{get_or}
 use Rattle.units.specs.declared.Times.{Times}
 use Rattle.units.specs.Units.{in_clocks, times_fit}
 use Rattle.units.proofs.Ranges.{ranges}
@@ -24,12 +28,16 @@ use Rattle.operation.proofs.Facts.{fits, outer_fits_lem}
 use Rattle.operation.proofs.Kept.{count_full, restate, none_inside, suspended_else, unset_made}
 use Rattle.command.specs.declared.Action.{Action}
 use Rattle.command.specs.declared.Action.TheVariants.{Array, Status, Signature, Clear, Program, Erase, Pause, Resume, Nothing}
-use Rattle.permission.specs.declared.Judgement.{Judgement}
-use Rattle.permission.specs.declared.Judgement.TheVariants.{Granted, Voltage, Pin, Lock, Suspended}
+use Rattle.permission.specs.declared.Denial.{Denial}
+use Rattle.permission.specs.declared.Denial.TheVariants.{Voltage, Pin, Lock, Suspended}
 use Rattle.command.specs.Commands.{row_of, column_of, action_at, action_of, acted}
 use Rattle.permission.specs.Permission.{into_suspended, judged}
 use Rattle.permission.proofs.Granted.{granted}
 use Rattle.command.specs.Setup.{accepted_of, starting, failing, answered, unconfirmed, written_of}
+
+-- the table as the machine reads it, inside its rows and columns
+pub in_table : (r k : ℕ) → r < 6 → k < 9 → get_or (get_or (from (λ (i : ℕ). from (action_at i) 0 9) 0 6) r []) k Array ≡ action_at r k
+in_table r k h l = at2 action_at 6 9 r k [] Array h l
 
 -- what a condition says of the operations
 pub data View (c : Controller) : Condition → Type 0 where
@@ -118,41 +126,10 @@ in_row EraseSuspended j h =
 in_row ProgramInside j h =
     sym (at (λ (i : ℕ). permitted ProgramInside (action_at 5 i)) 9 j true h) ∙ at (λ (i : ℕ). true) 9 j true h
 
--- the nine columns cover every byte. A record, and no function, so that `search` sees the choice in the goal
-record Column (k : ℕ) : Type 0 where
-  below : k < 9
-
-either : (t : Bool) (a b : ℕ) → Column a → Column b → Column (cond t a b)
-either true a b x y = x
-either false a b x y = y
-
-column : (byte : ℕ)
-    → Column 0
-    → Column 1
-    → Column 2
-    → Column 3
-    → Column 4
-    → Column 5
-    → Column 6
-    → Column 7
-    → Column 8
-    → Column (column_of byte)
-unfolding column_of
-column byte a b c d e f g h i = search either depth 20
-
+-- the nine columns cover every byte
 pub column_below : (byte : ℕ) → column_of byte < 9
-column_below byte =
-    (column byte
-    (record { below = omega arith })
-    (record { below = omega arith })
-    (record { below = omega arith })
-    (record { below = omega arith })
-    (record { below = omega arith })
-    (record { below = omega arith })
-    (record { below = omega arith })
-    (record { below = omega arith })
-    (record { below = omega arith })
-    ).below
+unfolding column_of
+column_below byte = grind (arith, nat_tests)
 
 pub actions_permitted : (k : Condition) (byte : ℕ) → permitted k (action_of k byte) ≡ true
 unfolding action_of
@@ -280,11 +257,7 @@ accepted_fits ts setup address byte t a = pick (ask (eqb setup 1))
 
 kind_below : (ts : Times) (setup address byte : ℕ) → ltb (accepted_of ts setup address byte).kind 3 ≡ true
 unfolding accepted_of
-kind_below ts setup address byte = pick (ask (eqb setup 1))
-  where
-    pick : Answer (eqb setup 1) → ltb (accepted_of ts setup address byte).kind 3 ≡ true
-    pick (yes s) = rw s
-    pick (no s) = rw s
+kind_below ts setup address byte = grind (arith, nat_tests)
 
 two : (n : ℕ) → n < 3 → (n ≡ 0 → ⊥) → (n ≡ 1 → ⊥) → n ≡ 2
 two n l x y = omega arith
@@ -365,29 +338,29 @@ starting_kept Pausing c ts address byte v x e t a s n = clash (refuse c.setup s 
 starting_kept ProgramSuspended c ts address byte v x e t a s n = clash (refuse c.setup s (rw x at (clauses c e).setup))
 starting_kept ProgramInside c ts address byte v x e t a s n = clash (refuse c.setup s (rw x at (clauses c e).setup))
 
-answered_kept : (j : Judgement) (c : Controller) (ts : Times) (sample lock address byte : ℕ)
+answered_kept : (j : Result Unit Denial) (c : Controller) (ts : Times) (sample lock address byte : ℕ)
     → judged c.setup c.outer sample lock address ≡ j
     → controller_fits c ≡ true
     → times_fit ts ≡ true
     → address < 1048576
     → eqb c.setup 0 ≡ false
     → controller_fits (answered j c (accepted_of ts c.setup address byte)) ≡ true
-answered_kept Granted c ts sample lock address byte g e t a s =
+answered_kept (Ok u) c ts sample lock address byte g e t a s =
     starting_kept (condition_of c) c ts address byte (view c) refl e t a s (granted c.setup c.outer sample lock address g).apart
-answered_kept Voltage c ts sample lock address byte g e t a s = failing_kept c 0x08 bit_3 e
-answered_kept Pin c ts sample lock address byte g e t a s = failing_kept c 0x02 bit_1 e
-answered_kept Lock c ts sample lock address byte g e t a s = failing_kept c 0x02 bit_1 e
-answered_kept Suspended c ts sample lock address byte g e t a s = failing_kept c 0x10 bit_4 e
+answered_kept (Err Voltage) c ts sample lock address byte g e t a s = failing_kept c 0x08 bit_3 e
+answered_kept (Err Pin) c ts sample lock address byte g e t a s = failing_kept c 0x02 bit_1 e
+answered_kept (Err Lock) c ts sample lock address byte g e t a s = failing_kept c 0x02 bit_1 e
+answered_kept (Err Suspended) c ts sample lock address byte g e t a s = failing_kept c 0x10 bit_4 e
 
 pub written_kept : (c : Controller) (ts : Times) (sample lock address byte : ℕ)
     → controller_fits c ≡ true
     → times_fit ts ≡ true
     → address < 1048576
-    → controller_fits (written_of c ts sample lock address byte).controller ≡ true
+    → controller_fits (written_of c ts sample lock address byte).after ≡ true
 unfolding written_of
 written_kept c ts sample lock address byte e t a = pick (ask (eqb c.setup 0)) (ask (unconfirmed c.setup byte))
   where
-    pick : Answer (eqb c.setup 0) → Answer (unconfirmed c.setup byte) → controller_fits (written_of c ts sample lock address byte).controller ≡ true
+    pick : Answer (eqb c.setup 0) → Answer (unconfirmed c.setup byte) → controller_fits (written_of c ts sample lock address byte).after ≡ true
     pick (yes s) u = rw s (acted_kept (action_of (condition_of c) byte) (condition_of c) c (view c) e s (actions_permitted (condition_of c) byte))
     pick (no s) (yes u) = rw (s, u) (failing_kept c 0x30 bits_4_5 e)
     pick (no s) (no u) = rw (s, u) (answered_kept _ c ts sample lock address byte refl e t a s)

@@ -4,28 +4,28 @@
 use mathlib.Core.Path.{◌≡◌, ◌∙◌, sym, refl, ap}
 use mathlib.Core.Bool.{Bool, true, false, cond}
 use mathlib.Core.List.{List}
+use Rattle.std.proofs.Common.{arith}
+use Rattle.std.proofs.lemmas.Bool.Decides.{nat_tests}
 use lib.ListN.{get_or}
+use Rattle.std.specs.Prelude.{Option, Some, None, Result, Ok, Err}
 use Prim.Native.Nat.{ℕ, ◌<◌}
 use lib.Bits.{bit_or, or_zero_r}
 use lib.Dec.{eqb}
-use borrow.Author.Tests.{eqb-true}
 use Rattle.basics.proofs.Rules.{Answer, yes, no, ask}
 use Rattle.basics.proofs.Table.{from, at}
 use Rattle.units.specs.declared.Times.{Times}
 use Rattle.record.specs.declared.Operation.{Operation}
 use Rattle.record.specs.declared.Controller.{Controller}
 use Rattle.units.specs.Units.{in_clocks}
-use Rattle.record.specs.Record.{is_absent, is_program, is_running, is_pausing, with_pause}
+use Rattle.record.specs.Record.{is_absent, is_running, is_pausing, with_pause}
 use Rattle.status.specs.declared.Condition.{Condition}
 use Rattle.status.specs.declared.Condition.TheVariants.{Ready, Running, Pausing, ProgramSuspended, EraseSuspended, ProgramInside}
 use Rattle.status.specs.Status.{condition_of}
-use Rattle.permission.specs.declared.Judgement.{Judgement}
-use Rattle.permission.specs.declared.Judgement.TheVariants.{Granted, Voltage, Pin, Lock, Suspended}
+use Rattle.permission.specs.declared.Denial.{Denial}
+use Rattle.permission.specs.declared.Denial.TheVariants.{Voltage, Pin, Lock, Suspended}
 use Rattle.permission.specs.Permission.{judged}
 use Rattle.command.specs.declared.Action.{Action}
 use Rattle.command.specs.declared.Action.TheVariants.{Array, Status, Signature, Clear, Program, Erase, Pause, Resume, Nothing}
-use Rattle.command.specs.declared.Verdict.{Verdict}
-use Rattle.command.specs.declared.Verdict.TheVariants.{Unjudged, Judged}
 use Rattle.command.specs.Commands.{row_of, column_of, action_at, action_of, acted}
 use Rattle.command.specs.Setup.{accepted_of, starting, failing, answered, unconfirmed, written_of}
 use Rattle.command.proofs.Kept.{column_below}
@@ -38,44 +38,30 @@ unfolding written_of
 command_alone c ts us s t l m a b byte e = rw e
 
 -- a failed judgement has its own error bit, and a granted one none
-abbrev pub bits_of : Judgement → ℕ
-bits_of Granted = 0
-bits_of Voltage = 0x08
-bits_of Pin = 0x02
-bits_of Lock = 0x02
-bits_of Suspended = 0x10
+abbrev pub bits_of : Result Unit Denial → ℕ
+bits_of (Ok u) = 0
+bits_of (Err Voltage) = 0x08
+bits_of (Err Pin) = 0x02
+bits_of (Err Lock) = 0x02
+bits_of (Err Suspended) = 0x10
 
-abbrev pub verdict_bits : Verdict → ℕ
-verdict_bits Unjudged = 0
-verdict_bits (Judged j) = bits_of j
+abbrev pub verdict_bits : Option (Result Unit Denial) → ℕ
+verdict_bits None = 0
+verdict_bits (Some j) = bits_of j
 
 -- the end of a setup looks at sample and lock register only for that bit
-by_bits : (j : Judgement) (c : Controller) (o : Operation) → answered j c o ≡ cond (eqb (bits_of j) 0) (starting c o) (failing c (bits_of j))
-by_bits Granted c o = refl
-by_bits Voltage c o = refl
-by_bits Pin c o = refl
-by_bits Lock c o = refl
-by_bits Suspended c o = refl
+by_bits : (j : Result Unit Denial) (c : Controller) (o : Operation) → answered j c o ≡ cond (eqb (bits_of j) 0) (starting c o) (failing c (bits_of j))
+by_bits (Ok u) c o = refl
+by_bits (Err Voltage) c o = refl
+by_bits (Err Pin) c o = refl
+by_bits (Err Lock) c o = refl
+by_bits (Err Suspended) c o = refl
 
 pub written_alike : (c : Controller) (ts : Times) (s t l m a byte : ℕ)
     → verdict_bits (written_of c ts s l a byte).verdict ≡ verdict_bits (written_of c ts t m a byte).verdict
-    → (written_of c ts s l a byte).controller ≡ (written_of c ts t m a byte).controller
+    → (written_of c ts s l a byte).after ≡ (written_of c ts t m a byte).after
 unfolding written_of
-written_alike c ts s t l m a byte = pick (ask (eqb c.setup 0)) (ask (unconfirmed c.setup byte))
-  where
-    same : (i j : Judgement) → bits_of i ≡ bits_of j → answered i c (accepted_of ts c.setup a byte) ≡ answered j c (accepted_of ts c.setup a byte)
-    same i j e =
-        by_bits i c (accepted_of ts c.setup a byte)
-        ∙ ap (λ (bits : ℕ). cond (eqb bits 0) (starting c (accepted_of ts c.setup a byte)) (failing c bits)) e
-        ∙ sym (by_bits j c (accepted_of ts c.setup a byte))
-
-    pick : Answer (eqb c.setup 0)
-        → Answer (unconfirmed c.setup byte)
-        → verdict_bits (written_of c ts s l a byte).verdict ≡ verdict_bits (written_of c ts t m a byte).verdict
-        → (written_of c ts s l a byte).controller ≡ (written_of c ts t m a byte).controller
-    pick (yes n) u e = rw n
-    pick (no n) (yes u) e = rw (n, u)
-    pick (no n) (no u) e = rw (n, u) (same (judged c.setup c.outer s l a) (judged c.setup c.outer t m a) (rw (n, u) at e))
+written_alike c ts s t l m a byte = grind (arith, nat_tests)
 
 -- the end of a setup leaves an operation that stands, and no write touches a mark
 acted_marks : (a : Action) (c : Controller) → (acted a c).marks ≡ c.marks
@@ -90,44 +76,40 @@ acted_marks Resume c = refl
 acted_marks Nothing c = refl
 
 module _ (c : Controller) (o : Operation) where
-  answered_marks : (j : Judgement) → (answered j c o).marks ≡ c.marks
+  answered_marks : (j : Result Unit Denial) → (answered j c o).marks ≡ c.marks
   unfolding starting failing
-  answered_marks Granted = pick (ask (is_absent c.outer))
-    where
-      pick : Answer (is_absent c.outer) → (starting c o).marks ≡ c.marks
-      pick (yes a) = rw a
-      pick (no a) = rw a
-  answered_marks Voltage = refl
-  answered_marks Pin = refl
-  answered_marks Lock = refl
-  answered_marks Suspended = refl
+  answered_marks (Ok u) = grind (arith, nat_tests)
+  answered_marks (Err Voltage) = refl
+  answered_marks (Err Pin) = refl
+  answered_marks (Err Lock) = refl
+  answered_marks (Err Suspended) = refl
 
-  answered_outer : (j : Judgement) → is_absent c.outer ≡ false → (answered j c o).outer ≡ c.outer
+  answered_outer : (j : Result Unit Denial) → is_absent c.outer ≡ false → (answered j c o).outer ≡ c.outer
   unfolding starting failing
-  answered_outer Granted a = rw a
-  answered_outer Voltage a = refl
-  answered_outer Pin a = refl
-  answered_outer Lock a = refl
-  answered_outer Suspended a = refl
+  answered_outer (Ok u) a = rw a
+  answered_outer (Err Voltage) a = refl
+  answered_outer (Err Pin) a = refl
+  answered_outer (Err Lock) a = refl
+  answered_outer (Err Suspended) a = refl
 
-pub written_marks : (c : Controller) (ts : Times) (s l a byte : ℕ) → (written_of c ts s l a byte).controller.marks ≡ c.marks
+pub written_marks : (c : Controller) (ts : Times) (s l a byte : ℕ) → (written_of c ts s l a byte).after.marks ≡ c.marks
 unfolding written_of failing
 written_marks c ts s l a byte = pick (ask (eqb c.setup 0)) (ask (unconfirmed c.setup byte))
   where
-    pick : Answer (eqb c.setup 0) → Answer (unconfirmed c.setup byte) → (written_of c ts s l a byte).controller.marks ≡ c.marks
+    pick : Answer (eqb c.setup 0) → Answer (unconfirmed c.setup byte) → (written_of c ts s l a byte).after.marks ≡ c.marks
     pick (yes n) u = rw n (acted_marks (action_of (condition_of c) byte) c)
     pick (no n) (yes u) = rw (n, u)
     pick (no n) (no u) = rw (n, u) (answered_marks c _ (judged c.setup c.outer s l a))
 
 pub written_outer : (c : Controller) (ts : Times) (s t l m a byte : ℕ)
     → is_absent c.outer ≡ false
-    → (written_of c ts s l a byte).controller.outer ≡ (written_of c ts t m a byte).controller.outer
+    → (written_of c ts s l a byte).after.outer ≡ (written_of c ts t m a byte).after.outer
 unfolding written_of failing
 written_outer c ts s t l m a byte o = pick (ask (eqb c.setup 0)) (ask (unconfirmed c.setup byte))
   where
     pick : Answer (eqb c.setup 0)
         → Answer (unconfirmed c.setup byte)
-        → (written_of c ts s l a byte).controller.outer ≡ (written_of c ts t m a byte).controller.outer
+        → (written_of c ts s l a byte).after.outer ≡ (written_of c ts t m a byte).after.outer
     pick (yes n) u = rw n
     pick (no n) (yes u) = rw (n, u)
     pick (no n) (no u) =
@@ -252,90 +234,17 @@ module _ (j : ℕ) (h : j < 9) where
   clear_in ProgramInside = by_row is_clear (λ (i : ℕ). false) 5 j h refl
 
 -- the columns of 50h, B0h and D0h have no other byte
-record Another (n k : ℕ) : Type 0 where
-  another : eqb k n ≡ false
-
-either : (n : ℕ) (t : Bool) (a b : ℕ) → Another n a → Another n b → Another n (cond t a b)
-either n true a b x y = x
-either n false a b x y = y
-
-never : (n a b : ℕ) → Another n b → Another n (cond false a b)
-never n a b y = y
-
-other_3 : (byte : ℕ)
-    → eqb byte 0x50 ≡ false
-    → Another 3 0
-    → Another 3 1
-    → Another 3 2
-    → Another 3 4
-    → Another 3 5
-    → Another 3 6
-    → Another 3 7
-    → Another 3 8
-    → Another 3 (column_of byte)
-unfolding column_of
-other_3 byte e a b c d f g h i = rw e (search (either 3, never 3) depth 20)
-
 column_3 : (byte : ℕ) → eqb (column_of byte) 3 ≡ eqb byte 0x50
 unfolding column_of
-column_3 byte = pick (ask (eqb byte 0x50))
-  where
-    o : (k : ℕ) → eqb k 3 ≡ false → Another 3 k
-    o k e = record { another = e }
-
-    pick : Answer (eqb byte 0x50) → eqb (column_of byte) 3 ≡ eqb byte 0x50
-    pick (yes y) = let e = eqb-true byte 0x50 y in rw e
-    pick (no e) = (other_3 byte e (o 0 refl) (o 1 refl) (o 2 refl) (o 4 refl) (o 5 refl) (o 6 refl) (o 7 refl) (o 8 refl)).another ∙ sym e
-
-other_6 : (byte : ℕ)
-    → eqb byte 0xB0 ≡ false
-    → Another 6 0
-    → Another 6 1
-    → Another 6 2
-    → Another 6 3
-    → Another 6 4
-    → Another 6 5
-    → Another 6 7
-    → Another 6 8
-    → Another 6 (column_of byte)
-unfolding column_of
-other_6 byte e a b c d f g h i = rw e (search (either 6, never 6) depth 20)
+column_3 byte = grind (arith, nat_tests)
 
 column_6 : (byte : ℕ) → eqb (column_of byte) 6 ≡ eqb byte 0xB0
 unfolding column_of
-column_6 byte = pick (ask (eqb byte 0xB0))
-  where
-    o : (k : ℕ) → eqb k 6 ≡ false → Another 6 k
-    o k e = record { another = e }
-
-    pick : Answer (eqb byte 0xB0) → eqb (column_of byte) 6 ≡ eqb byte 0xB0
-    pick (yes y) = let e = eqb-true byte 0xB0 y in rw e
-    pick (no e) = (other_6 byte e (o 0 refl) (o 1 refl) (o 2 refl) (o 3 refl) (o 4 refl) (o 5 refl) (o 7 refl) (o 8 refl)).another ∙ sym e
-
-other_7 : (byte : ℕ)
-    → eqb byte 0xD0 ≡ false
-    → Another 7 0
-    → Another 7 1
-    → Another 7 2
-    → Another 7 3
-    → Another 7 4
-    → Another 7 5
-    → Another 7 6
-    → Another 7 8
-    → Another 7 (column_of byte)
-unfolding column_of
-other_7 byte e a b c d f g h i = rw e (search (either 7, never 7) depth 20)
+column_6 byte = grind (arith, nat_tests)
 
 column_7 : (byte : ℕ) → eqb (column_of byte) 7 ≡ eqb byte 0xD0
 unfolding column_of
-column_7 byte = pick (ask (eqb byte 0xD0))
-  where
-    o : (k : ℕ) → eqb k 7 ≡ false → Another 7 k
-    o k e = record { another = e }
-
-    pick : Answer (eqb byte 0xD0) → eqb (column_of byte) 7 ≡ eqb byte 0xD0
-    pick (yes y) = let e = eqb-true byte 0xD0 y in rw e
-    pick (no e) = (other_7 byte e (o 0 refl) (o 1 refl) (o 2 refl) (o 3 refl) (o 4 refl) (o 5 refl) (o 6 refl) (o 8 refl)).another ∙ sym e
+column_7 byte = grind (arith, nat_tests)
 
 pub clear_where : (k : Condition) (byte : ℕ) → is_clear (action_of k byte) ≡ cond (is_ready_row k) (eqb byte 0x50) false
 unfolding action_of
@@ -351,14 +260,14 @@ resume_where k byte = resume_in (column_of byte) (column_below byte) k ∙ ap (�
 
 -- what stands after a byte written outside a setup
 module _ (c : Controller) (ts : Times) (s l a byte : ℕ) (n : eqb c.setup 0 ≡ true) where
-  pub commanded_outer : (written_of c ts s l a byte).controller.outer
+  pub commanded_outer : (written_of c ts s l a byte).after.outer
       ≡ cond (cond (is_running_row (condition_of c)) (eqb byte 0xB0) false) (with_pause c.outer 1 (in_clocks c.outer.times.pause))
       (cond (cond (is_suspended_row (condition_of c)) (eqb byte 0xD0) false) (with_pause c.outer 0 c.outer.pause) c.outer)
   unfolding written_of
   commanded_outer =
       rw (n, ← pause_where (condition_of c) byte, ← resume_where (condition_of c) byte) (acted_outer (action_of (condition_of c) byte) c)
 
-  pub commanded_inner : (written_of c ts s l a byte).controller.inner ≡ c.inner
+  pub commanded_inner : (written_of c ts s l a byte).after.inner ≡ c.inner
   unfolding written_of
   commanded_inner = rw n (acted_inner (action_of (condition_of c) byte) c)
 
@@ -366,39 +275,12 @@ module _ (c : Controller) (ts : Times) (s l a byte : ℕ) (n : eqb c.setup 0 ≡
 module _ (c : Controller) where
   pub running_row : is_running_row (condition_of c) ≡ cond (is_absent c.inner) (cond (is_absent c.outer) false (is_running c.outer)) false
   unfolding condition_of
-  running_row = pick (ask (is_absent c.inner)) (ask (is_absent c.outer)) (ask (is_running c.outer)) (ask (is_pausing c.outer)) (ask (is_program c.outer))
-    where
-      pick : Answer (is_absent c.inner)
-          → Answer (is_absent c.outer)
-          → Answer (is_running c.outer)
-          → Answer (is_pausing c.outer)
-          → Answer (is_program c.outer)
-          → is_running_row (condition_of c) ≡ cond (is_absent c.inner) (cond (is_absent c.outer) false (is_running c.outer)) false
-      pick (no i) o r p g = rw i
-      pick (yes i) (yes o) r p g = rw (i, o)
-      pick (yes i) (no o) (yes r) p g = rw (i, o, r)
-      pick (yes i) (no o) (no r) (yes p) g = rw (i, o, r, p)
-      pick (yes i) (no o) (no r) (no p) (yes g) = rw (i, o, r, p, g)
-      pick (yes i) (no o) (no r) (no p) (no g) = rw (i, o, r, p, g)
+  running_row = grind (arith, nat_tests)
 
   pub suspended_row : is_suspended_row (condition_of c)
       ≡ cond (is_absent c.inner) (cond (is_absent c.outer) false (cond (is_running c.outer) false (cond (is_pausing c.outer) false true))) false
   unfolding condition_of
-  suspended_row = pick (ask (is_absent c.inner)) (ask (is_absent c.outer)) (ask (is_running c.outer)) (ask (is_pausing c.outer)) (ask (is_program c.outer))
-    where
-      pick : Answer (is_absent c.inner)
-          → Answer (is_absent c.outer)
-          → Answer (is_running c.outer)
-          → Answer (is_pausing c.outer)
-          → Answer (is_program c.outer)
-          → is_suspended_row (condition_of c)
-          ≡ cond (is_absent c.inner) (cond (is_absent c.outer) false (cond (is_running c.outer) false (cond (is_pausing c.outer) false true))) false
-      pick (no i) o r p g = rw i
-      pick (yes i) (yes o) r p g = rw (i, o)
-      pick (yes i) (no o) (yes r) p g = rw (i, o, r)
-      pick (yes i) (no o) (no r) (yes p) g = rw (i, o, r, p)
-      pick (yes i) (no o) (no r) (no p) (yes g) = rw (i, o, r, p, g)
-      pick (yes i) (no o) (no r) (no p) (no g) = rw (i, o, r, p, g)
+  suspended_row = grind (arith, nat_tests)
 
 -- a command leaves error bits, but for the clear command
 acted_errors : (a : Action) (c : Controller) → (acted a c).errors ≡ cond (is_clear a) 0 c.errors
@@ -415,22 +297,18 @@ acted_errors Nothing c = refl
 -- a failed judgement adds its bit, and the start of an operation clears nothing
 starting_errors : (c : Controller) (o : Operation) → (starting c o).errors ≡ c.errors
 unfolding starting
-starting_errors c o = pick (ask (is_absent c.outer))
-  where
-    pick : Answer (is_absent c.outer) → (starting c o).errors ≡ c.errors
-    pick (yes a) = rw a
-    pick (no a) = rw a
+starting_errors c o = grind (arith, nat_tests)
 
-answered_errors : (j : Judgement) (c : Controller) (o : Operation) → (answered j c o).errors ≡ bit_or c.errors (bits_of j)
+answered_errors : (j : Result Unit Denial) (c : Controller) (o : Operation) → (answered j c o).errors ≡ bit_or c.errors (bits_of j)
 unfolding failing
-answered_errors Granted c o = starting_errors c o ∙ sym (or_zero_r c.errors)
-answered_errors Voltage c o = refl
-answered_errors Pin c o = refl
-answered_errors Lock c o = refl
-answered_errors Suspended c o = refl
+answered_errors (Ok u) c o = starting_errors c o ∙ sym (or_zero_r c.errors)
+answered_errors (Err Voltage) c o = refl
+answered_errors (Err Pin) c o = refl
+answered_errors (Err Lock) c o = refl
+answered_errors (Err Suspended) c o = refl
 
 pub written_errors : (c : Controller) (ts : Times) (s l a byte : ℕ)
-    → (written_of c ts s l a byte).controller.errors
+    → (written_of c ts s l a byte).after.errors
     ≡ cond (eqb c.setup 0) (cond (cond (is_ready_row (condition_of c)) (eqb byte 0x50) false) 0 c.errors)
     (bit_or c.errors (cond (unconfirmed c.setup byte) 0x30 (bits_of (judged c.setup c.outer s l a))))
 unfolding written_of failing
@@ -438,7 +316,7 @@ written_errors c ts s l a byte = pick (ask (eqb c.setup 0)) (ask (unconfirmed c.
   where
     pick : Answer (eqb c.setup 0)
         → Answer (unconfirmed c.setup byte)
-        → (written_of c ts s l a byte).controller.errors
+        → (written_of c ts s l a byte).after.errors
         ≡ cond (eqb c.setup 0) (cond (cond (is_ready_row (condition_of c)) (eqb byte 0x50) false) 0 c.errors)
         (bit_or c.errors (cond (unconfirmed c.setup byte) 0x30 (bits_of (judged c.setup c.outer s l a))))
     pick (yes n) u =

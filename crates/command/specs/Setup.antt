@@ -1,5 +1,5 @@
 -- Document 01, "The next array write ends a setup": what a byte written to the array does. Assumes nothing.
-use Rattle.std.specs.Prelude.{ℕ, Bool, false, cond, not, eqb}
+use Rattle.std.specs.Prelude.{ℕ, Bool, false, cond, not, eqb, Option, Some, None, Result, Ok, Err}
 use Rattle.std.specs.Int.Bits.{bit_or}
 use Rattle.units.specs.declared.Times.{Times}
 use Rattle.units.specs.Units.{clocks, in_clocks}
@@ -7,11 +7,9 @@ use Rattle.record.specs.declared.Operation.{Operation}
 use Rattle.record.specs.declared.Controller.{Controller}
 use Rattle.record.specs.Record.{is_absent, controller}
 use Rattle.status.specs.Status.{condition_of}
-use Rattle.permission.specs.declared.Judgement.{Judgement}
-use Rattle.permission.specs.declared.Judgement.TheVariants.{Granted, Voltage, Pin, Lock, Suspended}
-use Rattle.command.specs.declared.Verdict.{Verdict}
-use Rattle.command.specs.declared.Verdict.TheVariants.{Unjudged, Judged}
-use Rattle.command.specs.declared.Written.{Written}
+use Rattle.permission.specs.declared.Denial.{Denial}
+use Rattle.permission.specs.declared.Denial.TheVariants.{Voltage, Pin, Lock, Suspended}
+use Rattle.command.specs.declared.Judged.{Judged}
 use Rattle.command.specs.Commands.{action_of, acted}
 use Rattle.permission.specs.Permission.{judged}
 
@@ -51,25 +49,26 @@ unfoldable pub failing : Controller → ℕ → Controller
 failing c bits = controller c.mode (bit_or c.errors bits) 0 c.marks c.outer c.inner
 
 -- one failure sets its own bit only: voltage bit 3, pin and lock register bit 1, suspended block bit 4
-abbrev pub answered : Judgement → Controller → Operation → Controller
-answered Granted c o = starting c o
-answered Voltage c o = failing c 0x08
-answered Pin c o = failing c 0x02
-answered Lock c o = failing c 0x02
-answered Suspended c o = failing c 0x10
+abbrev pub answered : Result Unit Denial → Controller → Operation → Controller
+answered (Ok u) c o = starting c o
+answered (Err Voltage) c o = failing c 0x08
+answered (Err Pin) c o = failing c 0x02
+answered (Err Lock) c o = failing c 0x02
+answered (Err Suspended) c o = failing c 0x10
 
 -- after E, data other than D0h
 unfoldable pub unconfirmed : ℕ → ℕ → Bool
 unconfirmed setup byte = cond (eqb setup 2) (not (eqb byte 0xD0)) false
 
-abbrev pub written : Controller → Verdict → Written
-written c v = record { controller = c; verdict = v }
+-- what a written byte leaves, and the judgement where one was made
+abbrev pub with_verdict : {T : Type 0} → T → Option (Result Unit Denial) → Judged T
+with_verdict x v = record { after = x; verdict = v }
 
 -- a byte written to the array: outside a setup a command; after E not D0h, bits 4 and 5; otherwise it is judged
-unfoldable pub written_of : Controller → Times → ℕ → ℕ → ℕ → ℕ → Written
+unfoldable pub written_of : Controller → Times → ℕ → ℕ → ℕ → ℕ → Judged Controller
 written_of c ts sample lock address byte =
-    cond (eqb c.setup 0) (written (acted (action_of (condition_of c) byte) c) Unjudged)
-    (cond (unconfirmed c.setup byte) (written (failing c 0x30) Unjudged)
-    (written
+    cond (eqb c.setup 0) (with_verdict (acted (action_of (condition_of c) byte) c) None)
+    (cond (unconfirmed c.setup byte) (with_verdict (failing c 0x30) None)
+    (with_verdict
     (answered (judged c.setup c.outer sample lock address) c (accepted_of ts c.setup address byte))
-    (Judged (judged c.setup c.outer sample lock address))))
+    (Some (judged c.setup c.outer sample lock address))))

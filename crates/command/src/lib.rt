@@ -6,12 +6,15 @@ ghost use Rattle.std.specs.Prelude.{◌≡◌, ◌<◌};
 ghost use Rattle.command.specs.Commands.{row_of, column_of, action_of, acted};
 ghost use Rattle.command.specs.Setup.{accepted_of, starting, failing, answered, unconfirmed, written_of};
 
-use permission::{Judgement, judge};
+use Action::{Array, Clear, Erase, Nothing, Pause, Program, Resume, Signature, Status};
+use permission::{Denial, judge};
 use record::{Controller, Operation};
 use status::{Condition, condition_of};
-use units::{Clocks, Times, in_clocks};
+use units::{Clocks, Times};
 
-// The actions of the command table: A, S, G, C, P, E, Z, R and none.
+// `setup` is the number of C's record, 1 for a program and 2 for an erase.
+
+// The actions of the command table: A, S, G, C, P, E, Z, R and none, which is a cell of the table as the others are.
 #[derive(Clone, Copy)]
 pub enum Action {
     Array,
@@ -25,101 +28,41 @@ pub enum Action {
     Nothing,
 }
 
-// Six rows, by condition, and nine columns: FF, 70, 90 and 98, 50, 40 and 10, 20, B0, D0, other.
+// Six rows, by condition, and nine columns: FF, 70, 90 and 98, 50, 40 and 10, 20, B0, D0, other. An array of arrays, as the table on
+// paper is, read for the action.
 const ACTIONS: [[Action; 9]; 6] = [
     [
-        Action::Array,
-        Action::Status,
-        Action::Signature,
-        Action::Clear,
-        Action::Program,
-        Action::Erase,
-        Action::Nothing,
-        Action::Nothing,
-        Action::Nothing,
+        Array, Status, Signature, Clear, Program, Erase, Nothing, Nothing, Nothing,
     ],
     [
-        Action::Nothing,
-        Action::Status,
-        Action::Nothing,
-        Action::Nothing,
-        Action::Nothing,
-        Action::Nothing,
-        Action::Pause,
-        Action::Nothing,
-        Action::Nothing,
+        Nothing, Status, Nothing, Nothing, Nothing, Nothing, Pause, Nothing, Nothing,
     ],
     [
-        Action::Nothing,
-        Action::Nothing,
-        Action::Nothing,
-        Action::Nothing,
-        Action::Nothing,
-        Action::Nothing,
-        Action::Nothing,
-        Action::Nothing,
-        Action::Nothing,
+        Nothing, Nothing, Nothing, Nothing, Nothing, Nothing, Nothing, Nothing, Nothing,
     ],
     [
-        Action::Array,
-        Action::Status,
-        Action::Signature,
-        Action::Nothing,
-        Action::Nothing,
-        Action::Nothing,
-        Action::Nothing,
-        Action::Resume,
-        Action::Nothing,
+        Array, Status, Signature, Nothing, Nothing, Nothing, Nothing, Resume, Nothing,
     ],
     [
-        Action::Array,
-        Action::Status,
-        Action::Signature,
-        Action::Nothing,
-        Action::Program,
-        Action::Nothing,
-        Action::Nothing,
-        Action::Resume,
-        Action::Nothing,
+        Array, Status, Signature, Nothing, Program, Nothing, Nothing, Resume, Nothing,
     ],
     [
-        Action::Nothing,
-        Action::Status,
-        Action::Nothing,
-        Action::Nothing,
-        Action::Nothing,
-        Action::Nothing,
-        Action::Nothing,
-        Action::Nothing,
-        Action::Nothing,
+        Nothing, Status, Nothing, Nothing, Nothing, Nothing, Nothing, Nothing, Nothing,
     ],
 ];
 
-fn row(c: Condition) -> usize
-    ensures { (result ≡ row_of c) × (result < 6) }
-{
-    match c {
-        Condition::Ready => 0,
-        Condition::Running => 1,
-        Condition::Pausing => 2,
-        Condition::ProgramSuspended => 3,
-        Condition::EraseSuspended => 4,
-        Condition::ProgramInside => 5,
-    }
-}
-
+// A byte's column, a number since it is used for nothing but to read the table.
 #[tactic(auto, using(basics::proofs::Rules::cases), unfolding(crate::specs::Commands::column_of))]
 fn column(byte: u8) -> usize
-    ensures { (result ≡ column_of byte) × (result < 9) }
+    ensures same { result ≡ column_of byte }
+    ensures below { result < 9 }
 {
     match byte {
         0xFF => 0,
         0x70 => 1,
-        0x90 => 2,
-        0x98 => 2,
+        0x90 | 0x98 => 2,
         0x50 => 3,
-        0x40 => 4,
-        0x10 => 4,
+        0x40 | 0x10 => 4,
         0x20 => 5,
         0xB0 => 6,
         0xD0 => 7,
@@ -127,176 +70,169 @@ fn column(byte: u8) -> usize
     }
 }
 
+// A condition's row is its number.
+fn row(c: Condition) -> usize
+    ensures same { result ≡ row_of c }
+    ensures below { result < 6 }
+{
+    c as usize
+}
+
 // The action of a command byte in a condition.
+#[tactic(auto, using(crate::proofs::Kept::in_table), unfolding(crate::specs::Commands::action_of, crate::specs::Commands::action_at))]
 pub fn decide(c: Condition, byte: u8) -> Action
     ensures { result ≡ action_of c byte }
 {
-    let r = row(c);
-    let k = column(byte);
-    ACTIONS[r][k]
+    ACTIONS[row(c)][column(byte)]
 }
 
 // What an action does to the controller.
 pub fn act(a: Action, c: Controller) -> Controller
     ensures { result ≡ acted a c }
 {
-    let mut next = c;
     match a {
-        Action::Array => {
-            next.mode = 0;
-            next
+        Array => Controller { mode: 0, ..c },
+        Status => Controller { mode: 1, ..c },
+        Signature => Controller { mode: 2, ..c },
+        Clear => Controller { errors: 0, ..c },
+        Program => Controller {
+            mode: 1,
+            setup: 1,
+            ..c
+        },
+        Erase => Controller {
+            mode: 1,
+            setup: 2,
+            ..c
+        },
+        Pause => {
+            let outer = Operation {
+                state: 1,
+                pause: Clocks::from(c.outer.times.pause),
+                ..c.outer
+            };
+            Controller { outer, ..c }
         }
-        Action::Status => {
-            next.mode = 1;
-            next
+        Resume => {
+            let outer = Operation {
+                state: 0,
+                ..c.outer
+            };
+            Controller {
+                mode: 1,
+                outer,
+                ..c
+            }
         }
-        Action::Signature => {
-            next.mode = 2;
-            next
-        }
-        Action::Clear => {
-            next.errors = 0;
-            next
-        }
-        Action::Program => {
-            next.mode = 1;
-            next.setup = 1;
-            next
-        }
-        Action::Erase => {
-            next.mode = 1;
-            next.setup = 2;
-            next
-        }
-        Action::Pause => {
-            let mut o = c.outer;
-            let t = o.times;
-            let time = t.pause;
-            let full = in_clocks(time);
-            o.state = 1;
-            o.pause = full;
-            next.outer = o;
-            next
-        }
-        Action::Resume => {
-            let mut o = c.outer;
-            o.state = 0;
-            next.mode = 1;
-            next.outer = o;
-            next
-        }
-        Action::Nothing => c,
+        Nothing => c,
     }
 }
 
 // An operation as it is accepted, with data, block and times copied.
+#[tactic(auto, using(basics::proofs::Rules::cases), unfolding(crate::specs::Setup::accepted_of))]
 fn accept(times: Times, setup: u8, address: u32, byte: u8) -> Operation
     ensures { result ≡ accepted_of times setup address byte }
 {
-    if setup == 1 {
-        let program = times.program;
-        return Operation {
-            kind: 1,
-            state: 0,
-            data: byte,
-            address,
-            slices: 0,
-            left: in_clocks(program),
-            pause: Clocks(0),
-            times,
-        };
-    }
-    let slice = times.slice;
+    let (kind, slices, time) = if setup == 1 {
+        (1, 0, times.program)
+    } else {
+        (2, 256, times.slice)
+    };
     Operation {
-        kind: 2,
+        kind,
         state: 0,
         data: byte,
         address,
-        slices: 256,
-        left: in_clocks(slice),
+        slices,
+        left: Clocks::from(time),
         pause: Clocks(0),
         times,
     }
 }
 
 // The setup ends and an operation is there, inside the suspended erase where one stands.
+#[tactic(auto, using(basics::proofs::Rules::cases), unfolding(crate::specs::Setup::starting))]
 fn start(c: Controller, o: Operation) -> Controller
     ensures { result ≡ starting c o }
 {
-    let mut next = c;
-    next.setup = 0;
     if c.outer.kind == 0 {
-        next.outer = o;
-        return next;
+        return Controller {
+            setup: 0,
+            outer: o,
+            ..c
+        };
     }
-    next.inner = o;
-    next
+    Controller {
+        setup: 0,
+        inner: o,
+        ..c
+    }
 }
 
 // The setup ends with error bits set, and nothing starts.
+#[tactic(auto, unfolding(crate::specs::Setup::failing))]
 fn fail(c: Controller, bits: u8) -> Controller
     ensures { result ≡ failing c bits }
 {
-    let mut next = c;
-    next.setup = 0;
-    next.errors = c.errors | bits;
-    next
+    Controller {
+        setup: 0,
+        errors: c.errors | bits,
+        ..c
+    }
 }
 
-fn answer(j: Judgement, c: Controller, o: Operation) -> Controller
+fn answer(j: Result<(), Denial>, c: Controller, o: Operation) -> Controller
     ensures { result ≡ answered j c o }
 {
     match j {
-        Judgement::Granted => start(c, o),
-        Judgement::Voltage => fail(c, 0x08),
-        Judgement::Pin => fail(c, 0x02),
-        Judgement::Lock => fail(c, 0x02),
-        Judgement::Suspended => fail(c, 0x10),
+        Ok(()) => start(c, o),
+        Err(Denial::Voltage) => fail(c, 0x08),
+        Err(Denial::Pin | Denial::Lock) => fail(c, 0x02),
+        Err(Denial::Suspended) => fail(c, 0x10),
     }
 }
 
+#[tactic(auto, using(basics::proofs::Rules::cases), unfolding(crate::specs::Setup::unconfirmed))]
 fn is_unconfirmed(setup: u8, byte: u8) -> bool
     ensures { result ≡ unconfirmed setup byte }
 {
-    if setup == 2 {
-        return byte != 0xD0;
-    }
-    false
+    setup == 2 && byte != 0xD0
 }
 
-// Whether a write judged a permission, and what came of it.
+// What a written byte leaves of a controller or a device, and the judgement of a permission where one was made.
 #[derive(Clone, Copy)]
-pub enum Verdict {
-    Unjudged,
-    Judged(Judgement),
-}
-
-#[derive(Clone, Copy)]
-pub struct Written {
-    pub controller: Controller,
-    pub verdict: Verdict,
+pub struct Judged<T> {
+    pub after: T,
+    pub verdict: Option<Result<(), Denial>>,
 }
 
 // A byte written to the array: a command, or the end of a setup.
-pub fn write(c: Controller, times: Times, sample: u16, lock: u8, address: u32, byte: u8) -> Written
+#[tactic(auto, using(basics::proofs::Rules::cases), unfolding(crate::specs::Setup::written_of))]
+pub fn write(
+    c: Controller,
+    times: Times,
+    sample: u16,
+    lock: u8,
+    address: u32,
+    byte: u8,
+) -> Judged<Controller>
     ensures { result ≡ written_of c times sample lock address byte }
 {
     if c.setup == 0 {
-        return Written {
-            controller: act(decide(condition_of(c), byte), c),
-            verdict: Verdict::Unjudged,
+        return Judged {
+            after: act(decide(condition_of(c), byte), c),
+            verdict: None,
         };
     }
     if is_unconfirmed(c.setup, byte) {
-        return Written {
-            controller: fail(c, 0x30),
-            verdict: Verdict::Unjudged,
+        return Judged {
+            after: fail(c, 0x30),
+            verdict: None,
         };
     }
-    let outer = c.outer;
-    let j = judge(c.setup, outer, sample, lock, address);
-    Written {
-        controller: answer(j, c, accept(times, c.setup, address, byte)),
-        verdict: Verdict::Judged(j),
+    let j = judge(c.setup, c.outer, sample, lock, address);
+    Judged {
+        after: answer(j, c, accept(times, c.setup, address, byte)),
+        verdict: Some(j),
     }
 }

@@ -5,6 +5,7 @@ use mathlib.Core.Path.{◌≡◌, ◌∙◌, sym, refl}
 use mathlib.Core.Bool.{Bool, true, ◌&&◌, ◌||◌}
 use mathlib.Core.List.{List, [], ◌∷◌, ◌++◌}
 use native.Mathlib.Omega.{arith}
+use Rattle.std.proofs.Common.{Option, Some, None}
 use lib.Bits.{bit_and, and_le_l, or_lt}
 use lib.Dec.{eqb, ltb, leb}
 use lib.ListN.{get_or, set, take, drop, replicate}
@@ -19,7 +20,7 @@ use Rattle.record.specs.declared.Device.{Device}
 use Rattle.record.specs.Record.{is_lpc, is_idle, is_read, is_write, is_begun, is_program, block_of}
 use Rattle.record.specs.Sample.{lines, frame_line, is_reset}
 use Rattle.part.specs.declared.Register.{Register}
-use Rattle.part.specs.declared.Register.TheVariants.{Lock, Inputs, MakerCode, DeviceCode, Missing}
+use Rattle.part.specs.declared.Register.TheVariants.{Lock, Inputs, MakerCode, DeviceCode}
 use Rattle.part.specs.Parts.{device_code}
 use Rattle.part.specs.Registers.{register_at}
 use Rattle.effect.specs.declared.Effect.TheVariants.{Program, Fill}
@@ -209,12 +210,12 @@ status_below : (c : Controller) → c.errors < 256 → status_of c < 256
 unfolding status_of
 status_below c h = or_lt 8 c.errors (condition_bits (condition_of c)) h (condition_below (condition_of c))
 
-standing_below : (locks : List ℕ) (s : ℕ) (r : Register) → all_below 256 locks ≡ true → s < 65536 → standing locks s r < 256
-standing_below locks s (Lock b) e h = below_at locks b e
-standing_below locks s Inputs e h = omega arith
-standing_below locks s MakerCode e h = omega arith
-standing_below locks s DeviceCode e h = omega arith
-standing_below locks s Missing e h = omega arith
+standing_below : (locks : List ℕ) (s : ℕ) (r : Option Register) → all_below 256 locks ≡ true → s < 65536 → standing locks s r < 256
+standing_below locks s (Some (Lock b)) e h = below_at locks b e
+standing_below locks s (Some Inputs) e h = omega arith
+standing_below locks s (Some MakerCode) e h = omega arith
+standing_below locks s (Some DeviceCode) e h = omega arith
+standing_below locks s None e h = omega arith
 
 signature_below : (part a : ℕ) → signature_of part a < 256
 unfolding signature_of device_code
@@ -249,7 +250,7 @@ value_below d s a byte l e h b = pick (ask (is_array a))
     pick (yes x) = rw x (array_below d.part d.controller (lock_of d.locks (array_address a)) (array_address a) byte e b)
     pick (no x) = rw x (standing_below d.locks s (register_at d.part d.straps a) l h)
 
-reached_frame : (d : Device) (s a byte : ℕ) → (reached_of d s a byte).device.frame ≡ d.frame
+reached_frame : (d : Device) (s a byte : ℕ) → (reached_of d s a byte).after.frame ≡ d.frame
 unfolding reached_of
 reached_frame d s a byte = elim (ask (is_array a)) [ yes x ↦ rw x | no x ↦ rw x ]
 
@@ -260,7 +261,7 @@ module _ (d : Device) (image : List ℕ) (s : ℕ)
     (i : all_below 256 image ≡ true)
     (h : s < 65536)
   where
-    answered_byte : (a : Asked) → d.frame.byte < 256 → (answered_to a d image s).device.frame.byte < 256
+    answered_byte : (a : Asked) → d.frame.byte < 256 → (answered_to a d image s).after.frame.byte < 256
     answered_byte Silent f = f
     answered_byte (Read address) f = value_below d s address (get_or image (array_address address) 0) l e h (below_at image (array_address address) i)
     answered_byte (Write address byte) f = rw (reached_frame d s address byte) f
@@ -269,7 +270,7 @@ pub answer_byte : AnswerByte
 unfolding AnswerByte device_clock served_of
 answer_byte d image sample w = pick (ask (is_reset sample))
   where
-    errors : (controller_clock d.controller).controller.errors < 256
+    errors : (controller_clock d.controller).after.errors < 256
     errors = rw (clocked_errors d.controller) (ltb-true d.controller.errors 256 (holds _ 2 w))
 
     pick : Answer (is_reset sample) → is_answer (device_clock d image sample).answer ≡ true

@@ -40,8 +40,8 @@ itself o = record { kind = refl; address = refl; byte = refl }
 
 -- one clock of an operation that counts
 data OneClock (o : Operation) : Type 0 where
-  over : is_last o ≡ true → (operation_clock o).operation ≡ absent → (operation_clock o).finished ≡ true → OneClock o
-  on : is_last o ≡ false → (operation_clock o).finished ≡ false → Like o (operation_clock o).operation → OneClock o
+  over : is_last o ≡ true → (operation_clock o).after ≡ absent → (operation_clock o).finished ≡ true → OneClock o
+  on : is_last o ≡ false → (operation_clock o).finished ≡ false → Like o (operation_clock o).after → OneClock o
 
 -- what counts is not suspended
 stirring : (o : Operation) → is_still o ≡ false → is_suspended o ≡ false
@@ -88,18 +88,18 @@ absent_last = refl
 -- the controller's part of a clock, seen from a block
 pub data Counting (b : ℕ) (c : Controller) (d : List ℕ) : Type 0 where
   goes : is_last (op_of b c) ≡ false
-      → is_absent (op_of b (controller_clock c).controller) ≡ is_absent (op_of b c)
-      → Like (op_of b c) (op_of b (controller_clock c).controller)
-      → contents b (rest (op_of b (controller_clock c).controller) (applied (controller_clock c).effect d)) ≡ contents b (rest (op_of b c) d)
-      → marked (controller_clock c).controller.marks b ≡ marked c.marks b
+      → is_absent (op_of b (controller_clock c).after) ≡ is_absent (op_of b c)
+      → Like (op_of b c) (op_of b (controller_clock c).after)
+      → contents b (rest (op_of b (controller_clock c).after) (applied (controller_clock c).effect d)) ≡ contents b (rest (op_of b c) d)
+      → marked (controller_clock c).after.marks b ≡ marked c.marks b
       → Counting b c d
   ends : is_still (active c) ≡ false
       → is_last (op_of b c) ≡ true
       → is_absent (op_of b c) ≡ false
-      → is_absent (op_of b (controller_clock c).controller) ≡ true
+      → is_absent (op_of b (controller_clock c).after) ≡ true
       → contents b (applied (controller_clock c).effect d) ≡ contents b (rest (op_of b c) d)
-      → (is_erase (op_of b c) ≡ false → marked (controller_clock c).controller.marks b ≡ marked c.marks b)
-      → (is_erase (op_of b c) ≡ true → marked (controller_clock c).controller.marks b ≡ false)
+      → (is_erase (op_of b c) ≡ false → marked (controller_clock c).after.marks b ≡ marked c.marks b)
+      → (is_erase (op_of b c) ≡ true → marked (controller_clock c).after.marks b ≡ false)
       → Counting b c d
 
 -- a block's operation, by where it stands
@@ -190,14 +190,14 @@ turning : (b : ℕ) (c : Controller) (d : List ℕ) (o : Operation)
     → is_still o ≡ false
     → is_still (active c) ≡ false
     → (controller_clock c).effect ≡ (operation_clock o).effect
-    → (controller_clock c).controller.marks ≡ marks_after c.marks o (operation_clock o).finished
-    → ((operation_clock o).operation ≡ absent → op_of b (controller_clock c).controller ≡ absent)
-    → (Like o (operation_clock o).operation → op_of b (controller_clock c).controller ≡ (operation_clock o).operation)
+    → (controller_clock c).after.marks ≡ marks_after c.marks o (operation_clock o).finished
+    → ((operation_clock o).after ≡ absent → op_of b (controller_clock c).after ≡ absent)
+    → (Like o (operation_clock o).after → op_of b (controller_clock c).after ≡ (operation_clock o).after)
     → length d ≡ 1048576
     → Counting b c d
 turning b c d o h u e a f m w x y g k l = pick (one_clock o m)
   where
-    r : rest (operation_clock o).operation (applied (operation_clock o).effect d) ≡ rest o d
+    r : rest (operation_clock o).after (applied (operation_clock o).effect d) ≡ rest o d
     r = operation_clock_rest o d f a l
 
     pick : OneClock o → Counting b c d
@@ -207,7 +207,7 @@ turning b c d o h u e a f m w x y g k l = pick (one_clock o m)
         (λ v. rw y (ap (λ (z : ℕ). marked z b) (marks_program c.marks o (operation_clock o).finished (rw e at v))))
         (λ v. rw (y, q) (marks_own c.marks b o h u (rw e at v)))
     pick (on t q n) =
-        goes (rw e t) (rw (e, k n) (like_absent o (operation_clock o).operation n)) (rw (e, k n) n)
+        goes (rw e t) (rw (e, k n) (like_absent o (operation_clock o).after n)) (rw (e, k n) n)
         (rw (e, k n, x) (ap (contents b) r))
         (rw (y, q) (ap (λ (u : ℕ). marked u b) (marks_on c.marks o)))
 
@@ -215,13 +215,13 @@ turning b c d o h u e a f m w x y g k l = pick (one_clock o m)
 elsewhere : (b : ℕ) (c : Controller) (d : List ℕ) (o p : Operation)
     → b < 16
     → op_of b c ≡ p
-    → op_of b (controller_clock c).controller ≡ p
+    → op_of b (controller_clock c).after ≡ p
     → is_last p ≡ false
     → (is_absent p ≡ false → (operation_fits p ≡ true) × (block_of p.address ≡ b))
     → operation_fits o ≡ true
     → (b ≡ block_of o.address → ⊥)
     → (controller_clock c).effect ≡ (operation_clock o).effect
-    → (controller_clock c).controller.marks ≡ marks_after c.marks o (operation_clock o).finished
+    → (controller_clock c).after.marks ≡ marks_after c.marks o (operation_clock o).finished
     → length d ≡ 1048576
     → Counting b c d
 elsewhere b c d o p h e e' t q f n x y l =
@@ -250,10 +250,10 @@ active_own true c i = rw i
 active_own false c i = rw i
 
 record Turn (t : Bool) (c : Controller) : Type 0 where
-  next : own t (controller_clock c).controller ≡ (operation_clock (own t c)).operation
-  side : beside t (controller_clock c).controller ≡ beside t c
+  next : own t (controller_clock c).after ≡ (operation_clock (own t c)).after
+  side : beside t (controller_clock c).after ≡ beside t c
   effect : (controller_clock c).effect ≡ (operation_clock (own t c)).effect
-  marks : (controller_clock c).controller.marks ≡ marks_after c.marks (own t c) (operation_clock (own t c)).finished
+  marks : (controller_clock c).after.marks ≡ marks_after c.marks (own t c) (operation_clock (own t c)).finished
 
 turn : (t : Bool) (c : Controller) → is_absent c.inner ≡ t → is_still (own t c) ≡ false → Turn t c
 unfolding controller_clock replaced
@@ -315,23 +315,23 @@ alone b c d h e l i = pick (ask (is_still c.outer)) (ask (is_on b c.outer))
     quiet m (yes x) = rw (on_outer b c x) (still_last c.outer m)
     quiet m (no x) = rw (on_none b c x side) absent_last
 
-    gone_off : OneClock c.outer → is_on b c.outer ≡ false → is_on b (operation_clock c.outer).operation ≡ false
+    gone_off : OneClock c.outer → is_on b c.outer ≡ false → is_on b (operation_clock c.outer).after ≡ false
     gone_off (over t n q) x = rw n (off_none b)
-    gone_off (on t q n) x = like_on b c.outer (operation_clock c.outer).operation n ∙ x
+    gone_off (on t q n) x = like_on b c.outer (operation_clock c.outer).after n ∙ x
 
     pick : Answer (is_still c.outer) → Answer (is_on b c.outer) → Counting b c d
     pick (yes m) x = resting_on b c d (rw (active_own true c i) m) (quiet m x)
     pick (no m) (yes x) =
         let f = outer_fits_lem c e (moving c.outer m) in
         turning b c d c.outer h (on_here b c.outer x).1 (on_outer b c x) (moving c.outer m) f m (rw (active_own true c i) m) (turn true c i m).effect (turn true c i m).marks
-        (λ g. on_none b (controller_clock c).controller (rw ((turn true c i m).next, g) (off_none b)) (rw (turn true c i m).side side))
-        (λ k. on_outer b (controller_clock c).controller (rw (turn true c i m).next (like_on b c.outer _ k ∙ x)) ∙ (turn true c i m).next)
+        (λ g. on_none b (controller_clock c).after (rw ((turn true c i m).next, g) (off_none b)) (rw (turn true c i m).side side))
+        (λ k. on_outer b (controller_clock c).after (rw (turn true c i m).next (like_on b c.outer _ k ∙ x)) ∙ (turn true c i m).next)
         l
     pick (no m) (no x) =
         let a = moving c.outer m in
         let f = outer_fits_lem c e a in
         elsewhere b c d c.outer absent h (on_none b c x side)
-        (on_none b (controller_clock c).controller (rw (turn true c i m).next (gone_off (one_clock c.outer m) x)) (rw (turn true c i m).side side))
+        (on_none b (controller_clock c).after (rw (turn true c i m).next (gone_off (one_clock c.outer m) x)) (rw (turn true c i m).side side))
         absent_last (λ z. clash (sym z)) f (off_there b c.outer a x) (turn true c i m).effect (turn true c i m).marks l
 
 -- a clock with one
@@ -349,26 +349,26 @@ inside_erase b c d h e l i = pick (ask (is_on b c.outer)) (ask (is_on b c.inner)
     m : is_still c.inner ≡ false
     m = n.moves
 
-    gone_off : OneClock c.inner → is_on b c.inner ≡ false → is_on b (operation_clock c.inner).operation ≡ false
+    gone_off : OneClock c.inner → is_on b c.inner ≡ false → is_on b (operation_clock c.inner).after ≡ false
     gone_off (over t g q) x = rw g (off_none b)
-    gone_off (on t q k) x = like_on b c.inner (operation_clock c.inner).operation k ∙ x
+    gone_off (on t q k) x = like_on b c.inner (operation_clock c.inner).after k ∙ x
 
     pick : Answer (is_on b c.outer) → Answer (is_on b c.inner) → Counting b c d
     pick (yes x) y =
         let f = outer_fits_lem c e n.there in
         let k = (on_here b c.outer x).1 in
         elsewhere b c d c.inner c.outer h (on_outer b c x)
-        (on_outer b (controller_clock c).controller (rw (turn false c i m).side x) ∙ (turn false c i m).side)
+        (on_outer b (controller_clock c).after (rw (turn false c i m).side x) ∙ (turn false c i m).side)
         (suspended_last c.outer n.there n.rests) (λ z. (f, k)) n.sound (λ z. n.apart_from (k ∙ z))
         (turn false c i m).effect (turn false c i m).marks l
     pick (no x) (yes y) =
         turning b c d c.inner h (on_here b c.inner y).1 (on_inner b c x y) i n.sound m (rw (active_own false c i) m) (turn false c i m).effect (turn false c i m).marks
-        (λ g. on_none b (controller_clock c).controller (rw (turn false c i m).side x) (rw ((turn false c i m).next, g) (off_none b)))
-        (λ k. on_inner b (controller_clock c).controller (rw (turn false c i m).side x) (rw (turn false c i m).next (like_on b c.inner _ k ∙ y)) ∙ (turn false c i m).next)
+        (λ g. on_none b (controller_clock c).after (rw (turn false c i m).side x) (rw ((turn false c i m).next, g) (off_none b)))
+        (λ k. on_inner b (controller_clock c).after (rw (turn false c i m).side x) (rw (turn false c i m).next (like_on b c.inner _ k ∙ y)) ∙ (turn false c i m).next)
         l
     pick (no x) (no y) =
         elsewhere b c d c.inner absent h (on_none b c x y)
-        (on_none b (controller_clock c).controller (rw (turn false c i m).side x) (rw (turn false c i m).next (gone_off (one_clock c.inner m) y)))
+        (on_none b (controller_clock c).after (rw (turn false c i m).side x) (rw (turn false c i m).next (gone_off (one_clock c.inner m) y)))
         absent_last (λ z. clash (sym z)) n.sound (off_there b c.inner i y) (turn false c i m).effect (turn false c i m).marks l
 
 pub counting : (b : ℕ) (c : Controller) (d : List ℕ) → b < 16 → controller_fits c ≡ true → length d ≡ 1048576 → Counting b c d

@@ -235,11 +235,11 @@ calm_back (s ∷ ss) ts (calm _ _ h r k) = calm_back ss ts k
 
 -- what a write does leaves the frame, and does not see it
 module _ (d : Device) (sample a byte : ℕ) where
-  reached_frame : (reached_of d sample a byte).device.frame ≡ d.frame
+  reached_frame : (reached_of d sample a byte).after.frame ≡ d.frame
   unfolding reached_of
   reached_frame = elim (ask (is_array a)) [ yes i ↦ rw i | no i ↦ rw i ]
 
-  reached_same : (f : Frame) → SameButForFrame (reached_of (with_frame d f) sample a byte).device (reached_of d sample a byte).device
+  reached_same : (f : Frame) → SameButForFrame (reached_of (with_frame d f) sample a byte).after (reached_of d sample a byte).after
   unfolding reached_of
   reached_same f = elim (ask (is_array a)) [ yes i ↦ rw i (refl, refl, refl, refl, refl) | no i ↦ rw i (refl, refl, refl, refl, refl) ]
 
@@ -247,7 +247,7 @@ module _ (d : Device) (sample a byte : ℕ) where
 abbrev alike : Frame → Frame → Type 0
 alike f g = (f.kind ≡ g.kind) × (f.clock ≡ g.clock)
 
-answered_alike : (a : Asked) (d : Device) (image : List ℕ) (s : ℕ) → alike (answered_to a d image s).device.frame d.frame
+answered_alike : (a : Asked) (d : Device) (image : List ℕ) (s : ℕ) → alike (answered_to a d image s).after.frame d.frame
 answered_alike Silent d image s = (refl, refl)
 answered_alike (Read address) d image s = (refl, refl)
 answered_alike (Write address byte) d image s =
@@ -771,7 +771,7 @@ module _ (w : World) (s byte a : ℕ) (l : frame_line s ≡ 1) (e : w.device.fra
   asks : asked_of (broken.framed w s) ≡ Write a (lines byte + 16 * lines s)
   asks = ap asked_of act_clock ∙ acts_on_12 (lines byte + 16 * lines s) a
 
-  acts : is_reset s ≡ false → SameButForFrame (onward w s).device (reached_of (after_controller w.device) s a (lines byte + 16 * lines s)).device
+  acts : is_reset s ≡ false → SameButForFrame (onward w s).device (reached_of (after_controller w.device) s a (lines byte + 16 * lines s)).after
   unfolding onward device_clock served_of
   acts r =
       rw (r, act_clock, acts_on_12 (lines byte + 16 * lines s) a)
@@ -801,7 +801,7 @@ write_acts d image first others later low e n len own h =
     Acts ss =
         (asked_of (broken.framed (through (take 11 ss) (world d image)) (get_or ss 11 0)) ≡ Write (address_in d.part ss) (data_in ss))
         × SameButForFrame (through ss (world d image)).device
-        (reached_of (after_controller (through (take 11 ss) (world d image)).device) (get_or ss 11 0) (address_in d.part ss) (data_in ss)).device
+        (reached_of (after_controller (through (take 11 ss) (world d image)).device) (get_or ss 11 0) (address_in d.part ss) (data_in ss)).after
         × SameBehindTheBus (through (ss ++ later) (world d image)) (unheard later (through ss (world d image)))
 
     pick : (ss : List ℕ) → Head ss → Calm ss → length ss ≡ 11 → is_for d.part d.straps 2 (first ∷ ss) ≡ true → Acts (first ∷ ss)

@@ -4,6 +4,7 @@ use mathlib.Core.Path.{◌≡◌, ◌∙◌, sym, refl, ap}
 use mathlib.Core.Bool.{false, cond, ◌&&◌}
 use mathlib.Core.List.{List}
 use native.Mathlib.Omega.{arith}
+use Rattle.std.proofs.Common.{Option, Some, None}
 use lib.Dec.{eqb}
 use lib.ListN.{length, get_or}
 use lib.Seq.{get_or-set_same, get_or-set_other}
@@ -14,7 +15,7 @@ use Rattle.record.specs.declared.Device.{Device}
 use Rattle.record.specs.Record.{is_lpc}
 use Rattle.record.specs.Sample.{is_reset}
 use Rattle.part.specs.declared.Register.{Register}
-use Rattle.part.specs.declared.Register.TheVariants.{Lock, Inputs, MakerCode, DeviceCode, Missing}
+use Rattle.part.specs.declared.Register.TheVariants.{Lock, Inputs, MakerCode, DeviceCode}
 use Rattle.part.specs.Registers.{register_base, lock_offset, register_at}
 use Rattle.part.proofs.Rule.{lock_stands, lock_at}
 use Rattle.effect.specs.Effect.{applied}
@@ -32,7 +33,7 @@ place : (part straps block : ℕ) → register_base part straps + lock_offset bl
 unfolding register_base
 place part straps block = elim (ask (is_lpc part)) [ yes l ↦ rw l (omega arith) | no l ↦ rw l (omega arith) ]
 
-at_place : (part straps block : ℕ) → block < 16 → register_at part straps (lock_place part straps block) ≡ Lock block
+at_place : (part straps block : ℕ) → block < 16 → register_at part straps (lock_place part straps block) ≡ Some (Lock block)
 at_place part straps block h = rw (← place part straps block) (lock_at part straps block h)
 
 outside : (part straps block : ℕ) → block < 16 → is_array (lock_place part straps block) ≡ false
@@ -47,36 +48,36 @@ module _ (locks : List ℕ) (block byte : ℕ) where
   abbrev lock : ℕ
   lock = get_or locks block 0
 
-  own : block < length locks → get_or (stored locks byte (Lock block)) block 0 ≡ cond (eqb (lock / 2 % 2) 0) (byte % 8) lock
+  own : block < length locks → get_or (stored locks byte (Some (Lock block))) block 0 ≡ cond (eqb (lock / 2 % 2) 0) (byte % 8) lock
   own h = pick (ask (eqb (lock / 2 % 2) 0))
     where
       pick : Answer (eqb (lock / 2 % 2) 0)
-          → get_or (stored locks byte (Lock block)) block 0 ≡ cond (eqb (lock / 2 % 2) 0) (byte % 8) lock
+          → get_or (stored locks byte (Some (Lock block))) block 0 ≡ cond (eqb (lock / 2 % 2) 0) (byte % 8) lock
       pick (yes e) = rw e (get_or-set_same locks block (byte % 8) 0 h)
       pick (no e) = rw e
 
-  others : (part straps address : ℕ) (r : Register)
+  others : (part straps address : ℕ) (r : Option Register)
       → register_at part straps address ≡ r
       → eqb address (lock_place part straps block) ≡ false
       → get_or (stored locks byte r) block 0 ≡ lock
-  others part straps address (Lock b) e n = pick (ask (eqb (get_or locks b 0 / 2 % 2) 0))
+  others part straps address (Some (Lock b)) e n = pick (ask (eqb (get_or locks b 0 / 2 % 2) 0))
     where
       apart : block ≡ b → ⊥
       apart q = eqb-false address (lock_place part straps block) n (rw q (lock_stands part straps address b e ∙ place part straps b))
 
-      pick : Answer (eqb (get_or locks b 0 / 2 % 2) 0) → get_or (stored locks byte (Lock b)) block 0 ≡ lock
+      pick : Answer (eqb (get_or locks b 0 / 2 % 2) 0) → get_or (stored locks byte (Some (Lock b))) block 0 ≡ lock
       pick (yes k) = rw k (get_or-set_other locks b block (byte % 8) 0 apart)
       pick (no k) = rw k
-  others part straps address Inputs e n = refl
-  others part straps address MakerCode e n = refl
-  others part straps address DeviceCode e n = refl
-  others part straps address Missing e n = refl
+  others part straps address (Some Inputs) e n = refl
+  others part straps address (Some MakerCode) e n = refl
+  others part straps address (Some DeviceCode) e n = refl
+  others part straps address None e n = refl
 
 -- the bus's part of a clock
 answered_locks : (a : Asked) (d : Device) (late : List ℕ) (s block : ℕ)
     → block < 16
     → length d.locks ≡ 16
-    → get_or (answered_to a d late s).device.locks block 0
+    → get_or (answered_to a d late s).after.locks block 0
     ≡ cond (writes_to (lock_place d.part d.straps block) a && eqb (get_or d.locks block 0 / 2 % 2) 0) (byte_of a % 8) (get_or d.locks block 0)
 unfolding reached_of lock_written
 answered_locks Silent d late s block h l = refl
@@ -85,7 +86,7 @@ answered_locks (Write address byte) d late s block h l = pick (ask (is_array add
   where
     pick : Answer (is_array address)
         → Answer (eqb address (lock_place d.part d.straps block))
-        → get_or (answered_to (Write address byte) d late s).device.locks block 0
+        → get_or (answered_to (Write address byte) d late s).after.locks block 0
         ≡ cond (eqb address (lock_place d.part d.straps block) && eqb (get_or d.locks block 0 / 2 % 2) 0) (byte % 8) (get_or d.locks block 0)
     pick (yes x) (yes y) = clash (sym (outside d.part d.straps block h) ∙ rw (eqb-true address (lock_place d.part d.straps block) y) at x)
     pick (yes x) (no y) = rw (x, y)

@@ -68,23 +68,23 @@ no_erase t false y e = refl
 
 by_clock : (b : ℕ) (c : Controller) (d : List ℕ)
     → Counting b c d
-    → marked (controller_clock c).controller.marks b ≡ cond (is_erase (op_of b c) && is_last (op_of b c)) false (marked c.marks b)
+    → marked (controller_clock c).after.marks b ≡ cond (is_erase (op_of b c) && is_last (op_of b c)) false (marked c.marks b)
 by_clock b c d (goes l a k r m) = m ∙ sym (no_erase (is_last (op_of b c)) (is_erase (op_of b c)) (marked c.marks b) l)
 by_clock b c d (ends w l a n r m g) = pick (ask (is_erase (op_of b c)))
   where
     pick : Answer (is_erase (op_of b c))
-        → marked (controller_clock c).controller.marks b ≡ cond (is_erase (op_of b c) && is_last (op_of b c)) false (marked c.marks b)
+        → marked (controller_clock c).after.marks b ≡ cond (is_erase (op_of b c) && is_last (op_of b c)) false (marked c.marks b)
     pick (yes x) = rw (g x, x, l)
     pick (no x) = rw (m x, x)
 
 -- and the bus's leaves all marks
-answered_marks : (a : Asked) (d : Device) (late : List ℕ) (s : ℕ) → (answered_to a d late s).device.controller.marks ≡ d.controller.marks
+answered_marks : (a : Asked) (d : Device) (late : List ℕ) (s : ℕ) → (answered_to a d late s).after.controller.marks ≡ d.controller.marks
 unfolding reached_of
 answered_marks Silent d late s = refl
 answered_marks (Read address) d late s = refl
 answered_marks (Write address byte) d late s = pick (ask (is_array address))
   where
-    pick : Answer (is_array address) → (answered_to (Write address byte) d late s).device.controller.marks ≡ d.controller.marks
+    pick : Answer (is_array address) → (answered_to (Write address byte) d late s).after.controller.marks ≡ d.controller.marks
     pick (yes x) = rw x (written_marks d.controller d.times s _ (array_address address) byte)
     pick (no x) = rw x
 

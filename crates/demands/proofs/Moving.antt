@@ -26,8 +26,9 @@ use Rattle.soundness.specs.Sound.{operation_fits, setup_kinds, controller_fits}
 use Rattle.soundness.proofs.Clauses.{clauses}
 use Rattle.command.specs.declared.Action.{Action}
 use Rattle.command.specs.declared.Action.TheVariants.{Array, Status, Signature, Clear, Program, Erase, Pause, Resume, Nothing}
-use Rattle.permission.specs.declared.Judgement.{Judgement}
-use Rattle.permission.specs.declared.Judgement.TheVariants.{Granted, Voltage, Pin, Lock, Suspended}
+use Rattle.std.specs.Prelude.{Result, Ok, Err}
+use Rattle.permission.specs.declared.Denial.{Denial}
+use Rattle.permission.specs.declared.Denial.TheVariants.{Voltage, Pin, Lock, Suspended}
 use Rattle.command.specs.Commands.{acted, action_of}
 use Rattle.permission.specs.Permission.{pin_low, judged}
 use Rattle.permission.proofs.Granted.{Allowed, granted}
@@ -119,7 +120,7 @@ low : (n : ℕ) → n < 2 → eqb n 1 ≡ false → eqb n 0 ≡ true
 low n h e = let z = eqb-false n 1 e in eq-eqb n 0 (zero_of n h z)
 
 granted_allowed : (setup : ℕ) (outer : Operation) (sample : ℕ) (locks : List ℕ) (address : ℕ)
-    → judged setup outer sample (get_or locks (block_of address) 0) address ≡ Granted
+    → judged setup outer sample (get_or locks (block_of address) 0) address ≡ Ok tt
     → allowed (block_of address) sample locks ≡ true
 unfolding allowed pin_low
 granted_allowed setup outer sample locks address e = pick (ask (eqb (block_of address) 15))
@@ -174,7 +175,7 @@ unfolding is_on
 accepted_on b ts setup address byte = rw (accepted_there ts setup address byte, accepted_address ts setup address byte)
 
 -- an accepted operation takes its place: outside, or inside a suspended erase
-module _ (b sample : ℕ) (locks : List ℕ) (c : Controller) (ts : Times) (address byte : ℕ) (s : eqb c.setup 0 ≡ false) (t : times_fit ts ≡ true) (a : address < 1048576) (i : is_absent c.inner ≡ true) (g : judged c.setup c.outer sample (get_or locks (block_of address) 0) address ≡ Granted) where
+module _ (b sample : ℕ) (locks : List ℕ) (c : Controller) (ts : Times) (address byte : ℕ) (s : eqb c.setup 0 ≡ false) (t : times_fit ts ≡ true) (a : address < 1048576) (i : is_absent c.inner ≡ true) (g : judged c.setup c.outer sample (get_or locks (block_of address) 0) address ≡ Ok tt) where
   abbrev new : Operation
   new = accepted_of ts c.setup address byte
 
@@ -230,37 +231,37 @@ bare ProgramSuspended c (program_suspended i o) e s = i
 bare EraseSuspended c (erase_suspended i o r p g) e s = i
 bare ProgramInside c (within i) e s = clash (refuse c.setup s e)
 
-answering : (j : Judgement) (b sample : ℕ) (locks : List ℕ) (c : Controller) (ts : Times) (address byte : ℕ)
+answering : (j : Result Unit Denial) (b sample : ℕ) (locks : List ℕ) (c : Controller) (ts : Times) (address byte : ℕ)
     → judged c.setup c.outer sample (get_or locks (block_of address) 0) address ≡ j
     → controller_fits c ≡ true
     → times_fit ts ≡ true
     → address < 1048576
     → eqb c.setup 0 ≡ false
     → Moving b sample locks c (answered j c (accepted_of ts c.setup address byte))
-answering Granted b sample locks c ts address byte g e t a s = pick (ask (is_absent c.outer))
+answering (Ok u) b sample locks c ts address byte g e t a s = pick (ask (is_absent c.outer))
   where
     i : is_absent c.inner ≡ true
     i = bare (condition_of c) c (view c) (clauses c e).setup s
 
-    pick : Answer (is_absent c.outer) → Moving b sample locks c (answered Granted c (accepted_of ts c.setup address byte))
+    pick : Answer (is_absent c.outer) → Moving b sample locks c (answered (Ok tt) c (accepted_of ts c.setup address byte))
     pick (yes o) = outside b sample locks c ts address byte s t a i g o
     pick (no o) = inside b sample locks c ts address byte s t a i g o
-answering Voltage b sample locks c ts address byte g e t a s = fails 0x08 b sample locks c
-answering Pin b sample locks c ts address byte g e t a s = fails 0x02 b sample locks c
-answering Lock b sample locks c ts address byte g e t a s = fails 0x02 b sample locks c
-answering Suspended b sample locks c ts address byte g e t a s = fails 0x10 b sample locks c
+answering (Err Voltage) b sample locks c ts address byte g e t a s = fails 0x08 b sample locks c
+answering (Err Pin) b sample locks c ts address byte g e t a s = fails 0x02 b sample locks c
+answering (Err Lock) b sample locks c ts address byte g e t a s = fails 0x02 b sample locks c
+answering (Err Suspended) b sample locks c ts address byte g e t a s = fails 0x10 b sample locks c
 
 pub writing : (b sample : ℕ) (locks : List ℕ) (c : Controller) (ts : Times) (address byte : ℕ)
     → controller_fits c ≡ true
     → times_fit ts ≡ true
     → address < 1048576
-    → Moving b sample locks c (written_of c ts sample (get_or locks (block_of address) 0) address byte).controller
+    → Moving b sample locks c (written_of c ts sample (get_or locks (block_of address) 0) address byte).after
 unfolding written_of
 writing b sample locks c ts address byte e t a = pick (ask (eqb c.setup 0)) (ask (unconfirmed c.setup byte))
   where
     pick : Answer (eqb c.setup 0)
         → Answer (unconfirmed c.setup byte)
-        → Moving b sample locks c (written_of c ts sample (get_or locks (block_of address) 0) address byte).controller
+        → Moving b sample locks c (written_of c ts sample (get_or locks (block_of address) 0) address byte).after
     pick (yes s) u = rw s (acting (action_of (condition_of c) byte) b sample locks c)
     pick (no s) (yes u) = rw (s, u) (fails 0x30 b sample locks c)
     pick (no s) (no u) = rw (s, u) (answering _ b sample locks c ts address byte refl e t a s)

@@ -31,10 +31,10 @@ use Rattle.operation.proofs.Facts.{fits, active_fits, moving}
 use Rattle.operation.proofs.FitsIn.{operation_clock_in}
 use Rattle.operation.proofs.Kept.{paused_same}
 use Rattle.operation.proofs.Due as due
-use Rattle.permission.specs.declared.Judgement.{Judgement}
-use Rattle.permission.specs.declared.Judgement.TheVariants.{Granted, Voltage, Pin, Lock, Suspended}
+use Rattle.permission.specs.declared.Denial.{Denial}
+use Rattle.permission.specs.declared.Denial.TheVariants.{Voltage, Pin, Lock, Suspended}
 use Rattle.permission.specs.Permission.{pin_low, into_suspended, judged}
-use Rattle.command.specs.declared.Verdict.TheVariants.{Unjudged}
+use Rattle.std.specs.Prelude.{None, Result, Ok, Err}
 use Rattle.command.specs.Setup.{accepted_of, starting, failing, answered, unconfirmed, written_of}
 use Rattle.command.proofs.Laws as laws
 use Rattle.bus.specs.declared.Asked.{Asked}
@@ -116,10 +116,10 @@ module _ (c : Controller) (locks : List ℕ) (sample address : ℕ) where
   abbrev is_into : Bool
   is_into = eqb c.setup 1 && (is_erase c.outer && (is_suspended c.outer && eqb (block_of c.outer.address) block))
 
-  abbrev judgement : Judgement
+  abbrev judgement : Result Unit Denial
   judgement = judged c.setup c.outer sample (lock_of locks (array_address address)) (array_address address)
 
-  plainly : judgement ≡ cond (eqb (voltage sample) 0) Voltage (cond is_low Pin (cond is_locked Lock (cond is_into Suspended Granted)))
+  plainly : judgement ≡ cond (eqb (voltage sample) 0) (Err Voltage) (cond is_low (Err Pin) (cond is_locked (Err Lock) (cond is_into (Err Suspended) (Ok tt))))
   unfolding judged lock_of
   plainly = rw (pin_low_lem sample block, into c.setup c.outer (array_address address))
 
@@ -131,7 +131,7 @@ module _ (c : Controller) (locks : List ℕ) (sample address : ℕ) where
           → Answer is_low
           → Answer is_locked
           → Answer is_into
-          → laws.bits_of (cond (eqb (voltage sample) 0) Voltage (cond is_low Pin (cond is_locked Lock (cond is_into Suspended Granted))))
+          → laws.bits_of (cond (eqb (voltage sample) 0) (Err Voltage) (cond is_low (Err Pin) (cond is_locked (Err Lock) (cond is_into (Err Suspended) (Ok tt)))))
           ≡ failure c locks sample (Write address byte)
       pick (yes v) p l s = rw v
       pick (no v) (yes p) l s = rw (v, p)
@@ -209,7 +209,7 @@ module _ (c : Controller) (ts : Times) (locks : List ℕ) (sample address byte :
   unfolding unconfirmed
   unset_confirmed n = rw (eqb-true c.setup 0 n)
 
-  written : (written_of c ts sample (lock_of locks (array_address address)) (array_address address) byte).controller.errors ≡ ErrorsSaid c.errors c locks sample asked
+  written : (written_of c ts sample (lock_of locks (array_address address)) (array_address address) byte).after.errors ≡ ErrorsSaid c.errors c locks sample asked
   written =
       laws.written_errors c ts sample (lock_of locks (array_address address)) (array_address address) byte
       ∙ pick (ask (eqb c.setup 0)) (ask (unconfirmed c.setup byte))
@@ -229,19 +229,19 @@ module _ (c : Controller) (ts : Times) (locks : List ℕ) (sample address byte :
 -- a byte written to an address, as the controller sees it
 reached_array : (d : Device) (sample address byte : ℕ)
     → is_array address ≡ true
-    → (reached_of d sample address byte).device.controller
-    ≡ (written_of d.controller d.times sample (lock_of d.locks (array_address address)) (array_address address) byte).controller
+    → (reached_of d sample address byte).after.controller
+    ≡ (written_of d.controller d.times sample (lock_of d.locks (array_address address)) (array_address address) byte).after
 unfolding reached_of
 reached_array d sample address byte x = rw x
 
-reached_register : (d : Device) (sample address byte : ℕ) → is_array address ≡ false → (reached_of d sample address byte).device.controller ≡ d.controller
+reached_register : (d : Device) (sample address byte : ℕ) → is_array address ≡ false → (reached_of d sample address byte).after.controller ≡ d.controller
 unfolding reached_of
 reached_register d sample address byte x = rw x
 
 -- the bus's part of a clock, whatever the frame has come to ask
 module _ (d : Device) (late : List ℕ) (sample : ℕ) where
   abbrev After : ℕ → Asked → Type 0
-  After e asked = (answered_to asked d late sample).device.controller.errors ≡ ErrorsSaid e d.controller d.locks sample asked
+  After e asked = (answered_to asked d late sample).after.controller.errors ≡ ErrorsSaid e d.controller d.locks sample asked
 
   answered_errors : (asked : Asked) → After d.controller.errors asked
   answered_errors Silent = sym (unwritten d.controller d.locks sample Silent (λ t. refl))
@@ -260,11 +260,11 @@ module _ (d : Device) (late : List ℕ) (sample : ℕ) where
   errors_from e h asked = subst (λ (x : ℕ). After x asked) h (answered_errors asked)
 
 -- the controller's clock leaves them
-pub clocked_errors : (c : Controller) → (controller_clock c).controller.errors ≡ c.errors
+pub clocked_errors : (c : Controller) → (controller_clock c).after.errors ≡ c.errors
 unfolding controller_clock replaced
 clocked_errors c = pick (ask (is_still (active c))) (ask (is_absent c.inner))
   where
-    pick : Answer (is_still (active c)) → Answer (is_absent c.inner) → (controller_clock c).controller.errors ≡ c.errors
+    pick : Answer (is_still (active c)) → Answer (is_absent c.inner) → (controller_clock c).after.errors ≡ c.errors
     pick (yes m) i = rw m
     pick (no m) (yes i) = rw (m, i)
     pick (no m) (no i) = rw (m, i)
@@ -308,7 +308,7 @@ reached_verdict : (d : Device) (sample address byte : ℕ)
 unfolding reached_of
 reached_verdict d sample address byte x = rw x
 
-register_verdict : (d : Device) (sample address byte : ℕ) → is_array address ≡ false → (reached_of d sample address byte).verdict ≡ Unjudged
+register_verdict : (d : Device) (sample address byte : ℕ) → is_array address ≡ false → (reached_of d sample address byte).verdict ≡ None
 unfolding reached_of
 register_verdict d sample address byte x = rw x
 
@@ -365,13 +365,13 @@ unfolding failing
 fails_plainly c bits = refl
 
 -- by the judgement: granted just where no bit is to be set
-answered_said : (j : Judgement) (c : Controller) (o : Operation)
+answered_said : (j : Result Unit Denial) (c : Controller) (o : Operation)
     → cond (eqb (laws.bits_of j) 0) (answered j c o ≡ Begun c o) (Unstarted c (answered j c o))
-answered_said Granted c o = begins c o
-answered_said Voltage c o = fails_plainly c 0x08
-answered_said Pin c o = fails_plainly c 0x02
-answered_said Lock c o = fails_plainly c 0x02
-answered_said Suspended c o = fails_plainly c 0x10
+answered_said (Ok u) c o = begins c o
+answered_said (Err Voltage) c o = fails_plainly c 0x08
+answered_said (Err Pin) c o = fails_plainly c 0x02
+answered_said (Err Lock) c o = fails_plainly c 0x02
+answered_said (Err Suspended) c o = fails_plainly c 0x10
 
 -- what a command makes of the operation that stands, by the rows and by what stands
 commands : (c : Controller) (address byte : ℕ)
@@ -416,20 +416,20 @@ StartSaid c ts locks sample asked n =
 
 module _ (c : Controller) (ts : Times) (locks : List ℕ) (sample address byte : ℕ) (x : is_array address ≡ true) where
   abbrev later : Controller
-  later = (written_of c ts sample (lock_of locks (array_address address)) (array_address address) byte).controller
+  later = (written_of c ts sample (lock_of locks (array_address address)) (array_address address) byte).after
 
   unset_said : eqb c.setup 0 ≡ true → StartSaid c ts locks sample (Write address byte) later
   unset_said n =
       rw (x, n)
       (laws.commanded_outer c ts sample (lock_of locks (array_address address)) (array_address address) byte n ∙ commands c address byte, laws.commanded_inner c ts sample (lock_of locks (array_address address)) (array_address address) byte n, laws.written_marks c ts sample (lock_of locks (array_address address)) (array_address address) byte)
 
-  failed_later : eqb c.setup 0 ≡ false → unconfirmed c.setup byte ≡ true → failing c 0x30 ≡ (written_of c ts sample (lock_of locks (array_address address)) (array_address address) byte).controller
+  failed_later : eqb c.setup 0 ≡ false → unconfirmed c.setup byte ≡ true → failing c 0x30 ≡ (written_of c ts sample (lock_of locks (array_address address)) (array_address address) byte).after
   unfolding written_of
   failed_later n u = rw (n, u)
 
   judged_later : eqb c.setup 0 ≡ false
       → unconfirmed c.setup byte ≡ false
-      → answered (judgement c locks sample address) c (accepted_of ts c.setup (array_address address) byte) ≡ (written_of c ts sample (lock_of locks (array_address address)) (array_address address) byte).controller
+      → answered (judgement c locks sample address) c (accepted_of ts c.setup (array_address address) byte) ≡ (written_of c ts sample (lock_of locks (array_address address)) (array_address address) byte).after
   unfolding written_of
   judged_later n u = rw (n, u)
 
@@ -450,14 +450,14 @@ module _ (c : Controller) (ts : Times) (locks : List ℕ) (sample address byte :
       pick (no u) = subst (StartSaid c ts locks sample (Write address byte)) (judged_later n u) (judged_so u)
 
 answered_start : (d : Device) (late : List ℕ) (sample : ℕ) (asked : Asked)
-    → StartSaid d.controller d.times d.locks sample asked (answered_to asked d late sample).device.controller
+    → StartSaid d.controller d.times d.locks sample asked (answered_to asked d late sample).after.controller
 answered_start d late sample Silent = refl
 answered_start d late sample (Read address) = refl
 answered_start d late sample (Write address byte) = pick (ask (is_array address)) (ask (eqb d.controller.setup 0))
   where
     pick : Answer (is_array address)
         → Answer (eqb d.controller.setup 0)
-        → StartSaid d.controller d.times d.locks sample (Write address byte) (answered_to (Write address byte) d late sample).device.controller
+        → StartSaid d.controller d.times d.locks sample (Write address byte) (answered_to (Write address byte) d late sample).after.controller
     pick (yes x) (yes n) =
         subst (StartSaid d.controller d.times d.locks sample (Write address byte)) (sym (reached_array d sample address byte x))
         (unset_said d.controller d.times d.locks sample address byte x n)
@@ -491,13 +491,13 @@ pausing o n e = (
       rw (e, due.pause_ended o p (le-ltb 1 o.pause.0 l)),
 )
 
-counts_on : (o : Operation) → is_still o ≡ false → CountsOn o (operation_clock o).operation
+counts_on : (o : Operation) → is_still o ≡ false → CountsOn o (operation_clock o).after
 counts_on o m = pick (ask (ltb 1 o.left.0)) (ask (is_program o)) (ask (ltb 1 o.slices))
   where
     last : is_last o ≡ cond (ltb 1 o.left.0) false (cond (is_program o) true (not (ltb 1 o.slices)))
     last = is_last_of o m
 
-    over : ltb 1 o.left.0 ≡ false → is_last o ≡ true → (operation_clock o).operation ≡ absent → CountsOn o (operation_clock o).operation
+    over : ltb 1 o.left.0 ≡ false → is_last o ≡ true → (operation_clock o).after ≡ absent → CountsOn o (operation_clock o).after
     over l z e =
         record {
           ends = λ k. e;
@@ -509,11 +509,11 @@ counts_on o m = pick (ask (ltb 1 o.left.0)) (ask (is_program o)) (ask (ltb 1 o.s
           suspends = λ k. clash (sym k ∙ z);
         }
 
-    pick : Answer (ltb 1 o.left.0) → Answer (is_program o) → Answer (ltb 1 o.slices) → CountsOn o (operation_clock o).operation
+    pick : Answer (ltb 1 o.left.0) → Answer (is_program o) → Answer (ltb 1 o.slices) → CountsOn o (operation_clock o).after
     pick (yes l) p s =
         let n = with_left o o.slices (clocks (o.left.0 - 1)) in
         let k = paused_same n in
-        let q = pausing n (operation_clock o).operation (due.counted o l) in
+        let q = pausing n (operation_clock o).after (due.counted o l) in
         let z : is_last o ≡ false = last ∙ rw l in
         record {
           ends = λ t. clash (sym z ∙ t);
@@ -528,7 +528,7 @@ counts_on o m = pick (ask (ltb 1 o.left.0)) (ask (is_program o)) (ask (ltb 1 o.s
     pick (no l) (no p) (yes s) =
         let n = with_left o (o.slices - 1) (clocks (o.times.slice.0 * 33)) in
         let k = paused_same n in
-        let q = pausing n (operation_clock o).operation (due.next_slice o l p s) in
+        let q = pausing n (operation_clock o).after (due.next_slice o l p s) in
         let z : is_last o ≡ false = last ∙ rw (l, p, s) in
         record {
           ends = λ t. clash (sym z ∙ t);
@@ -547,7 +547,7 @@ counts d = (λ m. rw m, λ m. pick m (ask (is_absent d.controller.inner)) (count
   where
     pick : is_still (active d.controller) ≡ false
         → Answer (is_absent d.controller.inner)
-        → CountsOn (active d.controller) (operation_clock (active d.controller)).operation
+        → CountsOn (active d.controller) (operation_clock (active d.controller)).after
         → CountsOn (active d.controller) (cond (is_absent d.controller.inner) (after_controller d).controller.outer (after_controller d).controller.inner)
         × (cond (is_absent d.controller.inner) (after_controller d).controller.inner (after_controller d).controller.outer ≡ cond (is_absent d.controller.inner) d.controller.inner d.controller.outer)
         × ((after_controller d).controller.mode ≡ d.controller.mode)

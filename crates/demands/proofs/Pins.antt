@@ -18,7 +18,7 @@ use Rattle.record.specs.Sample.{voltage, frame_line, rp, init, is_reset, is_idle
 use Rattle.soundness.specs.Sound.{all_below, sound_of}
 use Rattle.soundness.proofs.Clauses.{parts, joined}
 use Rattle.operation.specs.Clock.{active, is_still}
-use Rattle.command.specs.declared.Verdict.TheVariants.{Unjudged}
+use Rattle.std.specs.Prelude.{None}
 use Rattle.access.specs.Write.{with_locks}
 use Rattle.command.proofs.Laws.{verdict_bits}
 use Rattle.clock.specs.Clock.{image_after, device_clock}
@@ -158,7 +158,7 @@ same_ready : (v w : World) → Alike v w → is_ready v.device ≡ is_ready w.de
 unfolding is_ready
 same_ready v w a = rw a.controllers
 
-busy_unjudged : (w : World) (s : ℕ) → Good w → is_ready w.device ≡ false → verdict_on w s ≡ Unjudged
+busy_unjudged : (w : World) (s : ℕ) → Good w → is_ready w.device ≡ false → verdict_on w s ≡ None
 busy_unjudged w s g r =
     unjudged w.device w.image s g.sound
     (sym (ready_still w.device (parts w.device g.sound).controller) ∙ r)

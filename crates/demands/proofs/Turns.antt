@@ -82,11 +82,11 @@ onward_like : (o n m : Operation) → Like o n → Like n m → Like o m
 onward_like o n m k l =
     record { kind = l.kind ∙ k.kind; address = l.address ∙ k.address; byte = l.byte ∙ k.byte }
 
-controller_clock_setup : (c : Controller) → (controller_clock c).controller.setup ≡ c.setup
+controller_clock_setup : (c : Controller) → (controller_clock c).after.setup ≡ c.setup
 unfolding controller_clock replaced
 controller_clock_setup c = pick (ask (is_still (active c))) (ask (is_absent c.inner))
   where
-    pick : Answer (is_still (active c)) → Answer (is_absent c.inner) → (controller_clock c).controller.setup ≡ c.setup
+    pick : Answer (is_still (active c)) → Answer (is_absent c.inner) → (controller_clock c).after.setup ≡ c.setup
     pick (yes m) i = rw m
     pick (no m) (yes i) = rw (m, i)
     pick (no m) (no i) = rw (m, i)
@@ -98,7 +98,7 @@ combined : (b sample : ℕ) (locks : List ℕ) (c n : Controller) (d : List ℕ)
     → length d ≡ 1048576
     → length (applied (controller_clock c).effect d) ≡ 1048576
     → Counting b c d
-    → Moving b sample locks (controller_clock c).controller n
+    → Moving b sample locks (controller_clock c).after n
     → Turn b (is_last (op_of b c)) (allowed b sample locks) c n d (applied (controller_clock c).effect d)
 combined b sample locks c n d h e l z (counts_on t a k r m) (stays x y q) =
     goes t (x ∙ a) (onward_like _ _ _ k y.like)
@@ -122,7 +122,7 @@ combined b sample locks c n d h e l z (counts-out w t a k r m o) (begins s x y f
 -- the bus, whatever the frame has come to ask
 asking : (a : Asked) (b sample : ℕ) (d : Device) (image : List ℕ)
     → sound_of d ≡ true
-    → Moving b sample d.locks d.controller (answered_to a d image sample).device.controller
+    → Moving b sample d.locks d.controller (answered_to a d image sample).after.controller
 unfolding reached_of lock_of
 asking Silent b sample d image e = unmoved b sample d.locks d.controller
 asking (Read address) b sample d image e = unmoved b sample d.locks d.controller
@@ -131,7 +131,7 @@ asking (Write address byte) b sample d image e = pick (ask (is_array address))
     p : Parts d
     p = parts d e
 
-    pick : Answer (is_array address) → Moving b sample d.locks d.controller (answered_to (Write address byte) d image sample).device.controller
+    pick : Answer (is_array address) → Moving b sample d.locks d.controller (answered_to (Write address byte) d image sample).after.controller
     pick (yes x) = rw x (writing b sample d.locks d.controller d.times (array_address address) byte p.controller p.times (omega arith))
     pick (no x) = rw x (unmoved b sample d.locks d.controller)
 
@@ -142,7 +142,7 @@ framed d f e h =
 
 serving : (b sample : ℕ) (d : Device) (image : List ℕ)
     → sound_of d ≡ true
-    → Moving b sample d.locks d.controller (served_of d image sample).device.controller
+    → Moving b sample d.locks d.controller (served_of d image sample).after.controller
 unfolding served_of
 serving b sample d image e =
     asking (asked_of (frame_clock d.part d.straps d.frame sample)) b sample (with_frame d (frame_clock d.part d.straps d.frame sample)) image

@@ -1,6 +1,6 @@
 -- Demand 1: one list of the calls with what each promises, one table of their refusals, what a refusal leaves, where a settle
 -- stops, and what a call that is done gives. The block view, status and marks give no number: it is 0 there. Assumes nothing.
-use Rattle.std.specs.Prelude.{ℕ, zero, suc, ◌*◌, ◌/◌, ◌%◌, ◌≤◌, ◌<◌, ◌≡◌, Bool, true, false, cond, not, ◌&&◌, ◌||◌, List, [], ◌∷◌, ◌++◌, eqb, ltb, leb, length, get_or, take, drop}
+use Rattle.std.specs.Prelude.{ℕ, zero, suc, ◌*◌, ◌/◌, ◌%◌, ◌≤◌, ◌<◌, ◌≡◌, Bool, true, false, cond, not, ◌&&◌, ◌||◌, List, [], ◌∷◌, ◌++◌, eqb, ltb, leb, length, get_or, take, drop, Ok}
 use Rattle.std.specs.Int.Bits.{bit_and}
 use Rattle.basics.specs.All.{all}
 use Rattle.basics.specs.Bytes.{two_at}
@@ -26,10 +26,8 @@ use Rattle.stream.specs.declared.Report.{Report}
 use Rattle.stream.specs.Run.{Runs}
 use Rattle.view.specs.declared.Piece.{Piece}
 use Rattle.view.specs.Shown.{is_zeros, Shows, ShowsPiece}
-use Rattle.sheet.specs.declared.Reading.{Reading}
-use Rattle.sheet.specs.declared.Reading.TheVariants.{Holds}
 use Rattle.sheet.specs.declared.Sheet.{Sheet}
-use Rattle.sheet.specs.Sheet.{of_layout, numbers_of, Reads, ReadsNumbers, WritesSheet}
+use Rattle.sheet.specs.Sheet.{Reading, bay, of_layout, numbers_of, Reads, ReadsNumbers, WritesSheet}
 use Rattle.demands.specs.History.{clock, after}
 
 -- the calls, with what is handed in
@@ -270,7 +268,7 @@ Right (read_sheet bytes) r =
     × (r.program ≡ two_at bytes 7)
     × (r.slice ≡ two_at bytes 9)
     × (r.pause ≡ two_at bytes 11)
-Right (read_sheet_as_enum bytes) r = r ≡ Holds (get_or bytes 3 0) (times (two_at bytes 7) (two_at bytes 9) (two_at bytes 11))
+Right (read_sheet_as_enum bytes) r = r ≡ Ok (bay (get_or bytes 3 0) (times (two_at bytes 7) (two_at bytes 9) (two_at bytes 11)))
 Right (write_sheet buffer straps program slice pause) g =
     g.1
     ≡ (0x01 ∷ 1 ∷ 0 ∷ straps ∷ 0x02 ∷ 6 ∷ 0 ∷ program % 256 ∷ program / 256 ∷ slice % 256 ∷ slice / 256 ∷ pause % 256 ∷ pause / 256 ∷ [])

@@ -208,7 +208,7 @@ WriteActs =
     × SameButForFrame
     (through (first ∷ others) (world d image)).device
     (reached_of (after_controller before)
-    (get_or (first ∷ others) 11 0) address (data_in (first ∷ others))).device
+    (get_or (first ∷ others) 11 0) address (data_in (first ∷ others))).after
     × SameBehindTheBus
     (through ((first ∷ others) ++ later) (world d image))
     (unheard later (through (first ∷ others) (world d image)))

@@ -6,6 +6,7 @@ ghost use Rattle.effect.specs.Effect.{FitsIn, applied};
 
 use basics::fill;
 
+// No Option: that nothing happens is one of three effects, and matched as one.
 #[derive(Clone, Copy)]
 pub enum Effect {
     // The array stays as it is.
@@ -23,17 +24,12 @@ pub fn apply(effect: Effect, image: &mut [u8])
     match effect {
         Effect::Nothing => {}
         Effect::Program { address, data } => {
-            let at = address as usize;
-            image[at] = image[at] & data;
+            image[address as usize] &= data;
         }
         Effect::Fill {
             start,
             count,
             value,
-        } => {
-            let from = start as usize;
-            let n = count as usize;
-            fill(image, from, n, value);
-        }
+        } => fill(image, start as usize, count as usize, value),
     }
 }

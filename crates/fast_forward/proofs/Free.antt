@@ -6,7 +6,7 @@ use Prim.Native.Nat.{ℕ, suc, ◌-◌, ◌≤◌, ◌<◌}
 use native.Mathlib.Nat.{sub-zero}
 use native.Mathlib.Omega.{arith}
 use lib.Dec.{ltb}
-use borrow.Author.Tests.{lt-ltb, ltb-true, ltb-false, leb-true, eqb-true}
+use borrow.Author.Tests.{eq-eqb, lt-ltb, ltb-true, ltb-false, leb-true, eqb-true}
 use Rattle.basics.proofs.Rules.{Answer, yes, no, ask, clash}
 use Rattle.basics.proofs.All.{holds}
 use Rattle.units.specs.declared.Micros.{Micros}
@@ -15,7 +15,7 @@ use Rattle.record.specs.declared.Operation.{Operation}
 use Rattle.record.specs.Record.{is_program, is_pausing}
 use Rattle.effect.specs.declared.Effect.TheVariants.{Nothing}
 use Rattle.soundness.specs.Sound.{counts, left_fits, state_fits, operation_fits}
-use Rattle.operation.specs.Clock.{paused_of, operation_clocked, operation_clock}
+use Rattle.operation.specs.Clock.{paused_of, with_effect, operation_clock}
 use Rattle.operation.proofs.Facts.{fits}
 use Rattle.fast_forward.specs.Forward.{operation_before_due, operation_later}
 
@@ -60,12 +60,23 @@ free_for n o e h = pick (ask (is_pausing o)) (ask (ltb o.pause.0 o.left.0))
         let x = ltb-false o.pause.0 o.left.0 s in
         record { left = omega (arith, l); pause = λ q. omega (arith, l) }
 
+-- so they are fewer than are left
+module _ (o : Operation) (e : operation_fits o ≡ true) where
+  free_before : Free (operation_before_due o) o
+  free_before = free_for (operation_before_due o) o e (omega arith)
+
+  pub before_end : operation_before_due o < o.left.0
+  before_end = free_before.left
+
+  pub before_pause_end : o.state ≡ 1 → operation_before_due o < o.pause.0
+  before_pause_end p = free_before.pause (eq-eqb o.state 1 p)
+
 -- one of them
-pub free_clock : (o : Operation) → Free 1 o → operation_clock o ≡ operation_clocked (operation_later 1 o) Nothing false
+pub free_clock : (o : Operation) → Free 1 o → operation_clock o ≡ with_effect (operation_later 1 o) Nothing false
 unfolding operation_clock paused_of operation_later
 free_clock o m = pick (ask (is_pausing o))
   where
-    pick : Answer (is_pausing o) → operation_clock o ≡ operation_clocked (operation_later 1 o) Nothing false
+    pick : Answer (is_pausing o) → operation_clock o ≡ with_effect (operation_later 1 o) Nothing false
     pick (yes p) = rw (lt-ltb 1 o.left.0 m.left, p, lt-ltb 1 o.pause.0 (m.pause p))
     pick (no p) = rw (lt-ltb 1 o.left.0 m.left, p)
 

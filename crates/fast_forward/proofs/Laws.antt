@@ -25,7 +25,7 @@ pub forwarding_from : (n count : ℕ) (c : Controller) (image : List ℕ)
     → forwarding n count c image ≡ later count (forwarding n 0 c image)
 forwarding_from zero count c image = let e : count + 0 ≡ count = omega arith in rw e
 forwarding_from (suc n) count c image =
-    let next = (controller_clock c).controller in
+    let next = (controller_clock c).after in
     let after = applied (controller_clock c).effect image in
     elim (ask (is_still (active c))) [
       | yes e ↦ let z : count + 0 ≡ count = omega arith in rw (e, z)
@@ -42,7 +42,7 @@ forwarding_most (suc n) count c image =
     elim (ask (is_still (active c))) [
       | yes e ↦ rw e (omega arith)
       | no e ↦
-          let l = forwarding_most n (count + 1) (controller_clock c).controller (applied (controller_clock c).effect image) in
+          let l = forwarding_most n (count + 1) (controller_clock c).after (applied (controller_clock c).effect image) in
           rw e (omega (arith, l))
     ]
 
@@ -60,7 +60,7 @@ forwarded zero count c image = (refl, refl)
 forwarded (suc n) count c image =
     elim (ask (is_still (active c))) [
       | yes e ↦ let s = still_later (suc n) c image e in rw e (sym s.0, sym s.1)
-      | no e ↦ rw e (forwarded n (count + 1) (controller_clock c).controller (applied (controller_clock c).effect image))
+      | no e ↦ rw e (forwarded n (count + 1) (controller_clock c).after (applied (controller_clock c).effect image))
     ]
 
 -- some clocks and some more
@@ -70,8 +70,8 @@ pub later_twice : (m n : ℕ) (c : Controller) (image : List ℕ)
 later_twice zero n c image = let e : 0 + n ≡ n = omega arith in rw e (refl, refl)
 later_twice (suc m) n c image =
     let e : suc m + n ≡ suc (m + n) = omega arith in
-    rw e (later_twice m n (controller_clock c).controller (applied (controller_clock c).effect image))
+    rw e (later_twice m n (controller_clock c).after (applied (controller_clock c).effect image))
 
 pub later_fits : (n : ℕ) (c : Controller) → controller_fits c ≡ true → controller_fits (controller_later n c) ≡ true
 later_fits zero c e = e
-later_fits (suc n) c e = later_fits n (controller_clock c).controller (controller_clock_kept c e)
+later_fits (suc n) c e = later_fits n (controller_clock c).after (controller_clock_kept c e)

@@ -11,8 +11,8 @@ use Rattle.record.specs.declared.Controller.{Controller}
 use Rattle.record.specs.Record.{is_absent}
 use Rattle.effect.specs.declared.Effect.TheVariants.{Nothing}
 use Rattle.status.specs.Status.{condition_of, status_of}
-use Rattle.soundness.specs.Sound.{controller_fits}
-use Rattle.operation.specs.Clock.{active, is_still, marks_after, replaced, controller_clocked, controller_clock}
+use Rattle.soundness.specs.Sound.{operation_fits, controller_fits}
+use Rattle.operation.specs.Clock.{active, is_still, marks_after, replaced, with_effect, controller_clock}
 use Rattle.operation.proofs.Facts.{active_fits, moving}
 use Rattle.fast_forward.specs.Forward.{controller_later, image_later, forwarding, controller_before_due, operation_later}
 use Rattle.fast_forward.proofs.Laws.{still_later}
@@ -22,9 +22,9 @@ use Rattle.fast_forward.proofs.Replaced.{replaced_same, active_of, clocked}
 pub later_mode : (n : ℕ) (c : Controller) → (controller_later n c).mode ≡ c.mode
 unfolding controller_clock replaced
 later_mode zero c = refl
-later_mode (suc n) c = later_mode n (controller_clock c).controller ∙ pick (ask (is_still (active c))) (ask (is_absent c.inner))
+later_mode (suc n) c = later_mode n (controller_clock c).after ∙ pick (ask (is_still (active c))) (ask (is_absent c.inner))
   where
-    pick : Answer (is_still (active c)) → Answer (is_absent c.inner) → (controller_clock c).controller.mode ≡ c.mode
+    pick : Answer (is_still (active c)) → Answer (is_absent c.inner) → (controller_clock c).after.mode ≡ c.mode
     pick (yes a) i = rw a
     pick (no a) (yes i) = rw (a, i)
     pick (no a) (no i) = rw (a, i)
@@ -38,7 +38,7 @@ pub record OnlyCounts (n : ℕ) (c : Controller) (o : Operation) (marks : ℕ) :
 
 -- one of them
 module _ (c : Controller) (o : Operation) (marks : ℕ) (s : is_still o ≡ false) where
-  one : Free 1 o → controller_clock (replaced c o marks) ≡ controller_clocked (replaced c (operation_later 1 o) marks) Nothing false
+  one : Free 1 o → controller_clock (replaced c o marks) ≡ with_effect (replaced c (operation_later 1 o) marks) Nothing false
   unfolding marks_after
   one m = clocked c o marks s ∙ rw (free_clock o m)
 
@@ -74,9 +74,13 @@ later_status n c = pick (ask (is_absent c.inner))
     pick (yes i) = rw (i, i)
     pick (no i) = rw (i, i)
 
+-- what counts in a sound controller is sound
+pub active_sound : (c : Controller) → controller_fits c ≡ true → is_still (active c) ≡ false → operation_fits (active c) ≡ true
+active_sound c e s = active_fits c e (moving (active c) s)
+
 pub only_counts_active : (n : ℕ) (c : Controller) → controller_fits c ≡ true → n ≤ controller_before_due c → is_still (active c) ≡ false → OnlyCounts n c (active c) c.marks
 unfolding controller_before_due
-only_counts_active n c e h s = only_counts n c (active c) c.marks s (free_for n (active c) (active_fits c e (moving (active c) s)) (rw s at h))
+only_counts_active n c e h s = only_counts n c (active c) c.marks s (free_for n (active c) (active_sound c e s) (rw s at h))
 
 pub free_image : (n : ℕ) (c : Controller) (image : List ℕ) → controller_fits c ≡ true → n ≤ controller_before_due c → image_later n c image ≡ image
 free_image n c image e h = pick (ask (is_still (active c)))

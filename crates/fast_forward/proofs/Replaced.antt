@@ -10,7 +10,7 @@ use Rattle.record.specs.declared.Controller.{Controller}
 use Rattle.record.specs.Record.{is_absent, is_suspended}
 use Rattle.soundness.specs.Sound.{inside, inner_fits, controller_fits}
 use Rattle.soundness.proofs.Clauses.{clauses}
-use Rattle.operation.specs.Clock.{active, is_still, operation_clock, marks_after, replaced, controller_clocked, controller_clock}
+use Rattle.operation.specs.Clock.{active, is_still, operation_clock, marks_after, replaced, with_effect, controller_clock}
 use Rattle.operation.proofs.Facts.{moving}
 
 pub replaced_same : (c : Controller) → replaced c (active c) c.marks ≡ c
@@ -58,7 +58,7 @@ module _ (c : Controller) (o : Operation) (marks : ℕ) where
   -- one clock
   pub clocked : is_still o ≡ false
       → controller_clock (replaced c o marks)
-      ≡ controller_clocked (replaced c (operation_clock o).operation (marks_after marks o (operation_clock o).finished)) (operation_clock o).effect (operation_clock o).finished
+      ≡ with_effect (replaced c (operation_clock o).after (marks_after marks o (operation_clock o).finished)) (operation_clock o).effect (operation_clock o).finished
   unfolding controller_clock
   clocked s =
       let a = moving o s in

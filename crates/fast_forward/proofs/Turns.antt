@@ -13,8 +13,8 @@ use Rattle.record.specs.declared.Controller.{Controller}
 use Rattle.record.specs.Record.{is_program}
 use Rattle.effect.specs.Effect.{FitsIn, applied}
 use Rattle.soundness.specs.Sound.{operation_fits, controller_fits}
-use Rattle.operation.specs.declared.OperationClocked.{OperationClocked}
-use Rattle.operation.specs.Clock.{active, is_still, operation_clock, marks_after, replaced, controller_clocked, controller_clock}
+use Rattle.operation.specs.declared.Counted.{Counted}
+use Rattle.operation.specs.Clock.{active, is_still, operation_clock, marks_after, replaced, with_effect, controller_clock}
 use Rattle.operation.proofs.Facts.{active_fits, moving}
 use Rattle.operation.proofs.Kept.{controller_clock_kept}
 use Rattle.operation.proofs.FitsIn.{controller_clock_fits}
@@ -31,11 +31,11 @@ stops zero count c image e = refl
 stops (suc n) count c image e = rw e
 
 -- an operation that goes on has not finished, and no mark is removed
-unfinished : (o : Operation) (marks : ℕ) → is_still (operation_clock o).operation ≡ false → marks_after marks o (operation_clock o).finished ≡ marks
+unfinished : (o : Operation) (marks : ℕ) → is_still (operation_clock o).after ≡ false → marks_after marks o (operation_clock o).finished ≡ marks
 unfolding operation_clock marks_after is_still
 unfinished o marks = pick (ask (ltb 1 o.left.0)) (ask (is_program o)) (ask (ltb 1 o.slices))
   where
-    pick : Answer (ltb 1 o.left.0) → Answer (is_program o) → Answer (ltb 1 o.slices) → is_still (operation_clock o).operation ≡ false → marks_after marks o (operation_clock o).finished ≡ marks
+    pick : Answer (ltb 1 o.left.0) → Answer (is_program o) → Answer (ltb 1 o.slices) → is_still (operation_clock o).after ≡ false → marks_after marks o (operation_clock o).finished ≡ marks
     pick (yes l) p k = λ s. rw l
     pick (no l) (yes p) k = λ s. clash (sym (rw (l, p) at s))
     pick (no l) (no p) (yes k) = λ s. rw (l, p, k)
@@ -52,11 +52,11 @@ sound c o k =
     rw a at (active_fits (replaced c o c.marks) k.fits (rw a (moving o k.moves)))
 
 -- the clock behind n on which nothing is due, and the controller after it
-abbrev due_of : ℕ → Operation → OperationClocked
+abbrev due_of : ℕ → Operation → Counted Operation
 due_of n o = operation_clock (operation_later n o)
 
 abbrev next : ℕ → Controller → Operation → Controller
-next n c o = replaced c (due_of n o).operation (marks_after c.marks (operation_later n o) (due_of n o).finished)
+next n c o = replaced c (due_of n o).after (marks_after c.marks (operation_later n o) (due_of n o).finished)
 
 module _ (n : ℕ) (c : Controller) (o : Operation) (k : Counting c o) (h : n ≤ operation_before_due o) where
   older : OnlyCounts n c o c.marks
@@ -72,13 +72,13 @@ module _ (n : ℕ) (c : Controller) (o : Operation) (k : Counting c o) (h : n �
   pub older_sound : operation_fits (operation_later n o) ≡ true
   older_sound = sound c (operation_later n o) older_counting
 
-  due_clock : controller_clock (replaced c (operation_later n o) c.marks) ≡ controller_clocked (next n c o) (due_of n o).effect (due_of n o).finished
+  due_clock : controller_clock (replaced c (operation_later n o) c.marks) ≡ with_effect (next n c o) (due_of n o).effect (due_of n o).finished
   due_clock = clocked c (operation_later n o) c.marks older_counting.moves
 
   pub due_fits : FitsIn (due_of n o).effect 1048576
   due_fits = rw due_clock at (controller_clock_fits (replaced c (operation_later n o) c.marks) older_counting.fits)
 
-  pub due_counting : is_still (due_of n o).operation ≡ false → Counting c (due_of n o).operation
+  pub due_counting : is_still (due_of n o).after ≡ false → Counting c (due_of n o).after
   due_counting s =
       record {
         moves = s;
@@ -97,14 +97,14 @@ module _ (n : ℕ) (c : Controller) (o : Operation) (k : Counting c o) (h : n �
         ∙ rw (active_of c (operation_later n o) c.marks (moving (operation_later n o) m), m, due_clock, b))
 
     pub due_last : controller_fits c ≡ true
-        → is_still (due_of n o).operation ≡ true
+        → is_still (due_of n o).after ≡ true
         → forwarding (all - count) count (replaced c o c.marks) image
         ≡ forward (count + (n + 1)) (next n c o) (applied (due_of n o).effect image)
     due_last e s = due ∙ stops (all - (count + (n + 1))) _ (next n c o) _ (none_counts c _ _ e s)
 
-    pub due_more : is_still (due_of n o).operation ≡ false
+    pub due_more : is_still (due_of n o).after ≡ false
         → forwarding (all - count) count (replaced c o c.marks) image
-        ≡ forwarding (all - (count + (n + 1))) (count + (n + 1)) (replaced c (due_of n o).operation c.marks) (applied (due_of n o).effect image)
+        ≡ forwarding (all - (count + (n + 1))) (count + (n + 1)) (replaced c (due_of n o).after c.marks) (applied (due_of n o).effect image)
     due_more s = rw (unfinished (operation_later n o) c.marks s) at due
 
 -- no such clock among those to come

@@ -11,11 +11,11 @@ use Rattle.operation.specs.Clock.{active, is_still, controller_clock}
 -- n clocks one after another, each with its effect
 abbrev pub controller_later : ℕ → Controller → Controller
 controller_later zero c = c
-controller_later (suc n) c = controller_later n (controller_clock c).controller
+controller_later (suc n) c = controller_later n (controller_clock c).after
 
 abbrev pub image_later : ℕ → Controller → List ℕ → List ℕ
 image_later zero c image = image
-image_later (suc n) c image = image_later n (controller_clock c).controller (applied (controller_clock c).effect image)
+image_later (suc n) c image = image_later n (controller_clock c).after (applied (controller_clock c).effect image)
 
 -- where a wait stops: how many clocks were done, the controller and the image then
 pub record Forward : Type 0 where
@@ -31,7 +31,7 @@ abbrev pub forwarding : ℕ → ℕ → Controller → List ℕ → Forward
 forwarding zero count c image = forward count c image
 forwarding (suc n) count c image =
     cond (is_still (active c)) (forward count c image)
-    (forwarding n (count + 1) (controller_clock c).controller (applied (controller_clock c).effect image))
+    (forwarding n (count + 1) (controller_clock c).after (applied (controller_clock c).effect image))
 
 -- for so many clocks an operation that counts has nothing due: no effect, no end and no end of a pause
 unfoldable pub operation_before_due : Operation → ℕ

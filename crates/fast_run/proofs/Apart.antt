@@ -23,7 +23,7 @@ use Rattle.clock.specs.Fold.{world, onward, answer_to}
 use Rattle.fast_run.specs.Stretch.{device_later, world_later}
 
 module _ (d : Device) (image : List ℕ) where
-  next : (n : ℕ) → (controller_clock (controller_later n d.controller)).controller ≡ controller_later (n + 1) d.controller
+  next : (n : ℕ) → (controller_clock (controller_later n d.controller)).after ≡ controller_later (n + 1) d.controller
   next n = (later_twice n 1 d.controller image).0
 
   next_image : (n : ℕ)
@@ -64,12 +64,12 @@ module _ (d : Device) (image : List ℕ) where
 
     pub writes : (address byte : ℕ) → asked_of g ≡ Write address byte
         → onward (world_later d image n f) sample
-        ≡ world (reached_of (device_later (n + 1) g d) sample address byte).device (image_later (n + 1) d.controller image)
+        ≡ world (reached_of (device_later (n + 1) g d) sample address byte).after (image_later (n + 1) d.controller image)
     unfolding onward device_clock image_after served_of
     writes address byte a = rw (r, e, a, next n, next_image n)
 
     pub writes_answer : (address byte : ℕ) → asked_of g ≡ Write address byte
         → answer_to (world_later d image n f) sample
-        ≡ driven_of (reached_of (device_later (n + 1) g d) sample address byte).device.frame
+        ≡ driven_of (reached_of (device_later (n + 1) g d) sample address byte).after.frame
     unfolding answer_to
     writes_answer address byte a = ap (λ (x : DeviceClocked). x.answer) clocked ∙ rw (a, next n)

@@ -12,8 +12,8 @@ use Rattle.record.specs.declared.Frame.{Frame}
 use Rattle.record.specs.declared.Device.{Device}
 use Rattle.record.specs.Record.{frame}
 use Rattle.basics.specs.Bytes.{filled, put}
-use Rattle.soundness.specs.Sound.{controller_fits}
-use Rattle.soundness.proofs.Clauses.{parts}
+use Rattle.soundness.specs.Sound.{controller_fits, sound_of}
+use Rattle.soundness.proofs.Clauses.{controller_sound}
 use Rattle.fast_forward.specs.Forward.{controller_before_due}
 use Rattle.fast_forward.proofs.NothingDue.{free_image, free_status, later_mode}
 use Rattle.bus.specs.declared.Asked.TheVariants.{Nothing as Silent}
@@ -24,7 +24,7 @@ use Rattle.record.specs.Sample.{is_reset, sample_at, is_idle_sample}
 use Rattle.clock.specs.Clock.{device_clock, image_after}
 use Rattle.clock.specs.Fold.{World, world, onward, answer_to}
 use Rattle.lookahead.specs.Lookahead.{address_at, is_frame_over, stays_idle, ended_frame, whole_frame, read_answers, Skipped}
-use Rattle.fast_run.specs.Stretch.{device_later, world_later, Simulates, Room, Alone}
+use Rattle.fast_run.specs.Stretch.{device_later, world_later, Simulates, Alone}
 use Rattle.fast_run.proofs.Leads.{one, lands, stays, simulates_on}
 use Rattle.fast_run.proofs.Apart.{silent, silent_answer}
 use Rattle.fast_run.proofs.Whole.{whole_room, whole_read, whole_write, written_world, resting}
@@ -33,14 +33,6 @@ use Rattle.fast_run.proofs.Whole.{whole_room, whole_read, whole_write, written_w
 pub over : (f : Frame) (x : ℕ) → stays_idle f x ≡ true → (is_idle_sample x ≡ true) × (is_frame_over f ≡ true)
 unfolding stays_idle
 over f x e = elim (ask (is_idle_sample x)) [ yes p ↦ (p, rw p at e) | no p ↦ clash (rw p at e) ]
-
--- the room that every step asks for, with less to go or with other answers in it
-pub room_less : {d : Device} {image s a : List ℕ} {n : ℕ} (m : ℕ) → Room d image s a n → m ≤ n → Room d image s a m
-room_less m r h =
-    record { sound = r.sound; whole = r.whole; given = omega (arith, r.given); wide = omega (arith, r.wide); few = omega (arith, r.few) }
-
-pub room_later : {d : Device} {image s a b : List ℕ} {n : ℕ} → Room d image s a n → length b ≡ length a → Room d image s b n
-room_later r e = record { sound = r.sound; whole = r.whole; given = r.given; wide = omega (arith, r.wide); few = r.few }
 
 put_set : (b : List ℕ) (k y : ℕ) → k < length b → set b k y ≡ put b k (y ∷ [])
 put_set b k y h = set_split b k y h ∙ sym (append_snoc (take k b) y (drop (suc k) b)) ∙ rw (add-one k)
@@ -107,14 +99,15 @@ module _ (d : Device) (image s : List ℕ) (k : ℕ) (f : Frame) (b : List ℕ) 
 
   -- along idle samples
   pub alone_rest : (to m : ℕ) (c : List ℕ)
-      → Room d image s b to
+      → 2 * to ≤ length s
+      → to ≤ length b
       → k < m
       → m ≤ to
       → stays_idle f (sample_at s k) ≡ true
       → Skipped s b k m c
       → length c ≡ length b
       → Alone d image s k f b m (ended_frame f) c
-  alone_rest to m c r h l e q z =
+  alone_rest to m c g w h l e q z =
       record { forward = omega arith; size = z; goes = λ n i. rest_step n m c (over _ _ e).1 h (omega arith) (omega arith) q }
 
   by : (j : ℕ) (g : Frame) (c : List ℕ)
@@ -141,21 +134,23 @@ module _ (d : Device) (image s : List ℕ) (k : ℕ) (f : Frame) (b : List ℕ) 
 
   -- a whole read
   pub alone_read : (to byte : ℕ) (c : List ℕ)
-      → Room d image s b to
+      → sound_of d ≡ true
+      → 2 * to ≤ length s
+      → to ≤ length b
       → whole_frame s d.part d.straps 1 k to 18 ≡ true
       → byte ≡ value_of d (sample_at s (k + 14)) (address_at d.part s (k + 2)) (get_or image (array_address (address_at d.part s (k + 2))) 0)
       → c ≡ put b k (read_answers byte)
       → length c ≡ length b
       → Alone d image s k f b (k + 18) (frame 1 18 byte (address_at d.part s (k + 2))) c
-  alone_read to byte c r q e z size =
-      let fit = (parts d r.sound).controller in
+  alone_read to byte c r g w q e z size =
+      let fit = controller_sound d r in
       let room = whole_room s d.part d.straps 1 k to 18 q in
       let a = address_at d.part s (k + 2) in
       by 18 (frame 1 18 byte a) c size
       (λ n h.
       let near : n + 15 ≤ controller_before_due d.controller = omega arith in
       let y = found (n + 15) (frame 1 15 0 a) d (sample_at s (k + 14)) a (get_or image (array_address a) 0) fit near ∙ sym e in
-      lands s k (k + 18) _ _ (read_answers byte) b c (rw (free_image (n + 15) d.controller image fit near, y) at (whole_read d image s k to n f q r.given)) (omega arith) z)
+      lands s k (k + 18) _ _ (read_answers byte) b c (rw (free_image (n + 15) d.controller image fit near, y) at (whole_read d image s k to n f q g)) (omega arith) z)
 
 -- one step of the bus alone behind those before it
 pub alone_on : (d : Device) {image s a b c : List ℕ} {from k m : ℕ} (to : ℕ) {w : World} {f g : Frame}

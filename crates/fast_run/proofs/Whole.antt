@@ -334,7 +334,7 @@ module _ (d : Device) (image s : List ℕ) where
         (join s (k + 14) (k + 15) (k + 18) _ _ _ (16 ∷ []) (driven read_value read_address 15 3) fixed tail))
 
   -- what a write does leaves the frame
-  reached_frame : (x : Device) (sample a byte : ℕ) → (reached_of x sample a byte).device.frame ≡ x.frame
+  reached_frame : (x : Device) (sample a byte : ℕ) → (reached_of x sample a byte).after.frame ≡ x.frame
   unfolding reached_of
   reached_frame x sample a byte =
       elim (ask (is_array a)) [ yes i ↦ rw i | no i ↦ rw i ]
@@ -343,7 +343,7 @@ module _ (d : Device) (image s : List ℕ) where
   abbrev pub written_world : ℕ → ℕ → World
   written_world k n =
       world
-      (reached_of (device_later (n + 12) (frame 2 12 (byte_at s k) (address_at d.part s (k + 2))) d) (sample_at s (k + 11)) (address_at d.part s (k + 2)) (byte_at s k)).device
+      (reached_of (device_later (n + 12) (frame 2 12 (byte_at s k) (address_at d.part s (k + 2))) d) (sample_at s (k + 11)) (address_at d.part s (k + 2)) (byte_at s k)).after
       (image_later (n + 12) d.controller image)
 
   module _ (k to n : ℕ) (f : Frame) (t : whole_frame s d.part d.straps 2 k to 12 ≡ true) (e : 2 * to ≤ length s) where

@@ -36,14 +36,6 @@ pub record Stretched (s : List ℕ) (k : ℕ) (w : World) (buffer : List ℕ) (n
   pub within : m ≤ n
   pub simulates : Simulates s k w buffer m v later
 
--- what every step asks for: a sound device, a whole image, the samples up to place n, and room for the answers to them
-pub record Room (d : Device) (image s answers : List ℕ) (n : ℕ) : Type 0 where
-  pub sound : sound_of d ≡ true
-  pub whole : length image ≡ 1048576
-  pub given : 2 * n ≤ length s
-  pub wide : n ≤ length answers
-  pub few : n ≤ 65536
-
 -- the bus has gone alone from place k with frame f to place m with frame g, however far the controller has counted, so
 -- long as nothing falls due in it on the way
 pub record Alone (d : Device) (image s : List ℕ) (k : ℕ) (f : Frame) (buffer : List ℕ) (m : ℕ) (g : Frame) (later : List ℕ) : Type 0 where

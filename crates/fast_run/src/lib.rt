@@ -2,9 +2,9 @@
 // stretch leaves is promised; how far one goes is speed, and not promised.
 #![tactic(auto)]
 
-ghost use Rattle.std.specs.Prelude.{◌≡◌, true, false, List, ◌++◌, ℕ, ◌+◌, ◌-◌, ◌*◌, ◌/◌, ◌≤◌, ◌<◌, length, drop};
+ghost use Rattle.std.specs.Prelude.{◌≡◌, true, false, List, ◌++◌, ℕ, ◌+◌, ◌-◌, ◌*◌, ◌/◌, ◌≤◌, ◌<◌, length, drop, IsNone, IfSome};
 ghost use Rattle.record.specs.declared.Device.{Device};
-ghost use Rattle.soundness.specs.Sound.{controller_fits, sound_of};
+ghost use Rattle.soundness.specs.Sound.{sound_of};
 ghost use Rattle.fast_forward.specs.Forward.{image_later, controller_before_due};
 ghost use Rattle.bus.specs.declared.Asked.TheVariants.{Nothing};
 ghost use Rattle.bus.specs.Frames.{asked_of};
@@ -12,24 +12,35 @@ ghost use Rattle.lookahead.specs.Lookahead.{address_at, stays_idle, whole_frame}
 ghost use Rattle.access.specs.Read.{array_address};
 ghost use Rattle.clock.specs.Fold.{world, through, answers_to};
 ghost use Rattle.record.specs.Sample.{samples, is_reset, sample_at};
-ghost use Rattle.fast_run.specs.Stretch.{device_later, world_later, Simulates, Stretched, Room, Alone};
+ghost use Rattle.fast_run.specs.Stretch.{device_later, world_later, Simulates, Stretched, Alone};
 
 use access::{array_address, reach, value};
-use basics::{fill, lesser};
+use basics::fill;
 use bus::{Asked, ask, clock_frame, drive};
 use clock::clock_device;
 use fast_forward::{controller_before_due, forward};
-use lookahead::{
-    address_at, answer_read, byte_at, end_frame, is_whole_frame, skip_idle, stays_idle,
-};
+use lookahead::{Ahead, FrameKind, address_at, answer_read, byte_at, end_frame, stays_idle};
 use operation::{active_of, is_still};
-use record::{Controller, Device, Frame, is_reset, sample_at};
+use part::Image;
+use record::{Chip, Controller, Device, Frame, is_reset, sample_at};
+use soundness::Sound;
 
-// How far the bus has come alone: the place of the next sample, and the frame then.
-#[derive(Drop)]
+// The samples to run through, few enough for their clocks to be counted. Image and answers are lent beside it: with them in one
+// struct every step would have to promise too that the stream stays.
+#[derive(Clone, Copy)]
+struct Course<'a> {
+    pub ahead: Ahead<'a>,
+    ghost few: { ahead.to ≤ 65536 },
+}
+
+// How far the bus has come alone from a place: the place of the next sample, and the frame then. The controller is behind it
+// by as many clocks.
+#[derive(Clone, Copy)]
 struct BusAlone {
+    pub from: usize,
     pub place: usize,
     pub frame: Frame,
+    ghost forward: { from ≤ place },
 }
 
 // What a whole read asks for: the address, its place in the array, and the sample on which the value is fixed.
@@ -40,12 +51,12 @@ struct Sought {
     pub sample: u16,
 }
 
-// The same of the read that begins at place k.
+// The same of the read that begins at place k; `part` is the number of C's record.
 fn sought_at(part: u8, stream: &[u8], k: usize) -> Sought
     requires { 2 * (k + 18) ≤ length stream.now }
-    ensures { (result.address ≡ address_at part stream.now (k + 2))
-        × (result.place ≡ array_address (address_at part stream.now (k + 2)))
-        × (result.sample ≡ sample_at stream.now (k + 14)) }
+    ensures address { result.address ≡ address_at part stream.now (k + 2) }
+    ensures place { result.place ≡ array_address (address_at part stream.now (k + 2)) }
+    ensures sample { result.sample ≡ sample_at stream.now (k + 14) }
 {
     let address = address_at(part, stream, k + 2);
     Sought {
@@ -56,133 +67,121 @@ fn sought_at(part: u8, stream: &[u8], k: usize) -> Sought
 }
 
 // Whether the bus stops before a sample: it resets, or a whole write begins with it.
-fn stops_before(stream: &[u8], part: u8, straps: u8, k: usize, to: usize) -> bool
-    requires k_lt_to { k < to }
-    requires to_in_bounds { 2 * to ≤ length stream.now }
-    ensures { result ≡ false → is_reset (sample_at stream.now k) ≡ false }
+fn stops_before(ahead: &Ahead, chip: Chip, k: usize) -> bool
+    requires { k < ahead.now.to }
+    ensures { result ≡ false → is_reset (sample_at ahead.now.stream.now k) ≡ false }
 {
-    if is_reset(sample_at(stream, k)) {
-        return true;
-    }
-    is_whole_frame(stream, part, straps, 2, k, to, 12)
+    is_reset(sample_at(ahead.stream, k)) || ahead.is_whole_frame(chip, FrameKind::Write, k, 12)
 }
 
 // Whether a frame asks for nothing.
-#[tactic(auto, using(basics::proofs::Rules::clash))]
 fn is_silent(f: Frame) -> bool
     ensures { result ≡ true → asked_of f ≡ Nothing }
 {
-    match ask(f) {
-        Asked::Nothing => true,
-        Asked::Read(_) => false,
-        Asked::Write(_, _) => false,
-    }
+    matches!(ask(f), Asked::Nothing)
 }
 
-// One clock of the bus alone, or none: it stops before a reset, before a whole write, and before a clock on which the frame
-// asks for something.
-#[tactic(auto, using(crate::proofs::Steps::alone_none))]
-fn clock_bus(
-    part: u8,
-    straps: u8,
-    stream: &[u8],
-    answers: &mut [u8],
-    f: Frame,
-    k: usize,
-    to: usize,
-) -> BusAlone
-    requires k_lt_to { k < to }
-    requires to_in_bounds { 2 * to ≤ length stream.now }
-    requires to_in_bounds_2 { to ≤ length answers.old }
-    ensures { (result.place ≤ to)
-        × ((d : Device) (image : List ℕ) → d.part ≡ part
-        → d.straps ≡ straps
-        → Alone d image stream.now k f answers.old result.place result.frame answers.new) }
+// The frame after one clock of the bus alone, or none: it stops before a reset, before a whole write, and before a clock on which
+// the frame asks for something.
+fn clock_bus(chip: Chip, ahead: &Ahead, answers: &mut [u8], f: Frame, k: usize) -> Option<Frame>
+    requires k_lt_to { k < ahead.now.to }
+    requires wide { ahead.now.to ≤ length answers.old }
+    ensures stops { IsNone result → answers.new ≡ answers.old }
+    ensures alone { IfSome result (λ frame. (d : Device) (image : List ℕ) → d.part ≡ chip.part
+        → d.straps ≡ chip.straps
+        → Alone d image ahead.now.stream.now k f answers.old (k + 1) frame answers.new) }
 {
-    if stops_before(stream, part, straps, k, to) {
-        return BusAlone { place: k, frame: f };
+    if stops_before(ahead, chip, k) {
+        return None;
     }
-    let next = clock_frame(part, straps, f, sample_at(stream, k));
-    if is_silent(next) {
-        answers[k] = drive(next);
-        return BusAlone {
-            place: k + 1,
-            frame: next,
-        };
+    let frame = clock_frame(chip, f, sample_at(ahead.stream, k));
+    if !is_silent(frame) {
+        return None;
     }
-    BusAlone { place: k, frame: f }
+    answers[k] = drive(frame);
+    Some(frame)
 }
 
 // The bus alone, while nothing is due in the controller: idle stretches and whole reads at once, other clocks one by one until
-// it stops.
-#[tactic(auto, using(crate::proofs::Leads::stays, crate::proofs::Whole::whole_room, crate::proofs::Steps::over, crate::proofs::Steps::room_later))]
+// it stops. No `for`: a turn goes as far as its samples allow.
+#[tactic(auto, using(crate::proofs::Leads::stays, crate::proofs::Whole::whole_room, crate::proofs::Steps::over))]
 fn run_bus_alone(
-    d: Device,
-    image: &[u8],
-    stream: &[u8],
+    d: Sound<Device>,
+    image: &Image,
+    ahead: &Ahead,
     answers: &mut [u8],
     from: usize,
-    to: usize,
 ) -> BusAlone
-    requires room { Room d image.now stream.now answers.old to }
-    requires from_le_to { from ≤ to }
-    requires from_bound { to - from ≤ controller_before_due d.controller }
-    ensures { (result.place ≤ to)
-        × Simulates stream.now from (world d image.now) answers.old
-        result.place (world_later d image.now (result.place - from) result.frame) answers.new }
+    requires wide { ahead.now.to ≤ length answers.old }
+    requires from_le_to { from ≤ ahead.now.to }
+    requires from_bound { ahead.now.to - from ≤ controller_before_due d.value.controller }
+    ensures begun { result.from ≡ from }
+    ensures within { result.place ≤ ahead.now.to }
+    ensures simulates { Simulates ahead.now.stream.now from (world d.value image.now) answers.old
+        result.place (world_later d.value image.now (result.place - from) result.frame) answers.new }
 {
+    let d = d.value;
+    let chip = d.chip();
+    let stream = ahead.stream;
     let mut f = d.frame;
     let mut k = from;
-    while k < to {
+    while k < ahead.to {
         if stays_idle(f, sample_at(stream, k)) {
-            k = skip_idle(stream, answers, k, to);
+            k = ahead.skip_idle(answers, k);
             f = end_frame(f);
-        } else if is_whole_frame(stream, d.part, d.straps, 1, k, to, 18) {
+        } else if ahead.is_whole_frame(chip, FrameKind::Read, k, 18) {
             let r = sought_at(d.part, stream, k);
-            let address = r.address;
-            let at = r.place;
-            let byte = value(d, r.sample, address, image[at]);
+            let byte = value(d, r.sample, r.address, image[r.place]);
             answer_read(answers, k, byte);
             f = Frame {
                 kind: 1,
                 clock: 18,
                 byte,
-                address,
+                address: r.address,
             };
             k += 18;
         } else {
-            let t = clock_bus(d.part, d.straps, stream, answers, f, k, to);
-            if t.place == k {
-                return t;
-            }
-            let next = t.frame;
+            let Some(next) = clock_bus(chip, ahead, answers, f, k) else {
+                return BusAlone {
+                    from,
+                    place: k,
+                    frame: f,
+                };
+            };
             f = next;
-            k = t.place;
+            k += 1;
         }
     }
-    BusAlone { place: k, frame: f }
+    BusAlone {
+        from,
+        place: k,
+        frame: f,
+    }
 }
 
 // The device n clocks later, nothing having been said to its controller, with the frame that the bus has come to. Where no
 // operation counts, its controller is not taken out and put back.
-#[tactic(auto, using(fast_forward::proofs::Laws::forwarded))]
-fn device_later(d: Device, image: &mut [u8], f: Frame, n: u32) -> Device
-    requires d_value { sound_of d ≡ true }
-    requires image_len { length image.old ≡ 1048576 }
-    ensures { (result ≡ device_later n f d)
-        × (image.new ≡ image_later n d.controller image.old) }
+#[tactic(auto, using(fast_forward::proofs::Laws::forwarded, soundness::proofs::Clauses::controller_sound))]
+fn device_later(d: Sound<Device>, image: &mut Image, frame: Frame, n: u32) -> Device
+    ensures device { result ≡ device_later n frame d.value }
+    ensures array { image.new ≡ image_later n d.value.controller image.old }
 {
-    let c = d.controller;
-    let mut next = d;
-    next.frame = f;
-    let o = active_of(c);
-    if is_still(o) {
-        return next;
+    let d = d.value;
+    if is_still(active_of(d.controller)) {
+        return Device { frame, ..d };
     }
-    let p = forward(c, image, n);
-    let counted = p.controller;
-    next.controller = counted;
-    next
+    let p = forward(
+        Sound {
+            value: d.controller,
+        },
+        image,
+        n,
+    );
+    Device {
+        frame,
+        controller: p.after,
+        ..d
+    }
 }
 
 // How far a stretch has come: the device, and the place of the next sample.
@@ -192,52 +191,55 @@ struct Stretch {
     pub place: usize,
 }
 
-// An idle stretch, with all that falls due in it. The controller is `behind` the bus by so many clocks, as in the two below.
+// An idle stretch, with all that falls due in it, behind what the bus did alone, as in the two below.
 #[tactic(auto, using(crate::proofs::Steps::over))]
 fn stretch_idle(
-    d: Device,
-    image: &mut [u8],
-    stream: &[u8],
+    d: Sound<Device>,
+    image: &mut Image,
+    course: &Course,
     answers: &mut [u8],
-    f: Frame,
-    behind: u32,
-    at: usize,
-    n: usize,
+    alone: BusAlone,
 ) -> Stretch
-    requires room { Room d image.old stream.now answers.old n }
-    requires at_lt_n { at < n }
-    requires behind_le_at { behind ≤ at }
-    requires at_value { stays_idle f (sample_at stream.now at) ≡ true }
-    ensures { Stretched stream.now at (world_later d image.old behind f) answers.old
-        n result.place (world result.device image.new) answers.new }
+    requires wide { course.now.ahead.to ≤ length answers.old }
+    requires place_lt_to { alone.place < course.now.ahead.to }
+    requires rests { stays_idle alone.frame (sample_at course.now.ahead.stream.now alone.place) ≡ true }
+    ensures { Stretched course.now.ahead.stream.now alone.place
+        (world_later d.value image.old (alone.place - alone.from) alone.frame) answers.old
+        course.now.ahead.to result.place (world result.device image.new) answers.new }
 {
-    let place = skip_idle(stream, answers, at, n);
+    let place = course.ahead.skip_idle(answers, alone.place);
     Stretch {
-        device: device_later(d, image, end_frame(f), behind + ((place - at) as u32)),
+        device: device_later(
+            d,
+            image,
+            end_frame(alone.frame),
+            (place - alone.from) as u32,
+        ),
         place,
     }
 }
 
 // A whole write, up to the clock on which it acts.
 fn stretch_write(
-    d: Device,
-    image: &mut [u8],
-    stream: &[u8],
+    d: Sound<Device>,
+    image: &mut Image,
+    course: &Course,
     answers: &mut [u8],
-    f: Frame,
-    behind: u32,
-    at: usize,
-    n: usize,
+    alone: BusAlone,
 ) -> Stretch
-    requires room { Room d image.old stream.now answers.old n }
-    requires at_bound { at + 12 ≤ n }
-    requires behind_le_at { behind ≤ at }
-    requires n_value { whole_frame stream.now d.part d.straps 2 at n 12 ≡ true }
-    ensures { Stretched stream.now at (world_later d image.old behind f) answers.old
-        n result.place (world result.device image.new) answers.new }
+    requires wide { course.now.ahead.to ≤ length answers.old }
+    requires place_bound { alone.place + 12 ≤ course.now.ahead.to }
+    requires writes { whole_frame course.now.ahead.stream.now d.value.part d.value.straps 2
+        alone.place course.now.ahead.to 12 ≡ true }
+    ensures { Stretched course.now.ahead.stream.now alone.place
+        (world_later d.value image.old (alone.place - alone.from) alone.frame) answers.old
+        course.now.ahead.to result.place (world result.device image.new) answers.new }
 {
+    let at = alone.place;
+    let behind = (at - alone.from) as u32;
+    let stream = course.ahead.stream;
     let byte = byte_at(stream, at);
-    let address = address_at(d.part, stream, at + 2);
+    let address = address_at(d.value.part, stream, at + 2);
     let last = Frame {
         kind: 2,
         clock: 12,
@@ -246,33 +248,30 @@ fn stretch_write(
     };
     let e = device_later(d, image, last, behind + 12);
     let r = reach(e, sample_at(stream, at + 11), address, byte);
-    let device = r.device;
     fill(answers, at, 12, 0);
     Stretch {
-        device,
+        device: r.after,
         place: at + 12,
     }
 }
 
 // One clock.
 fn stretch_clock(
-    d: Device,
-    image: &mut [u8],
-    stream: &[u8],
+    d: Sound<Device>,
+    image: &mut Image,
+    ahead: &Ahead,
     answers: &mut [u8],
     at: usize,
-    n: usize,
 ) -> Stretch
-    requires room { Room d image.old stream.now answers.old n }
-    requires at_lt_n { at < n }
-    ensures { Stretched stream.now at (world d image.old) answers.old
-        n result.place (world result.device image.new) answers.new }
+    requires wide { ahead.now.to ≤ length answers.old }
+    requires at_lt_to { at < ahead.now.to }
+    ensures { Stretched ahead.now.stream.now at (world d.value image.old) answers.old
+        ahead.now.to result.place (world result.device image.new) answers.new }
 {
-    let a = clock_device(d, image, sample_at(stream, at));
-    let device = a.device;
-    answers[at] = a.answer;
+    let t = clock_device(d, image, sample_at(ahead.stream, at));
+    answers[at] = t.answer;
     Stretch {
-        device,
+        device: t.device,
         place: at + 1,
     }
 }
@@ -280,91 +279,106 @@ fn stretch_clock(
 // The next stretch behind what the bus did alone: one of the three.
 #[tactic(auto, using(crate::proofs::Whole::whole_room))]
 fn stretch_on(
-    d: Device,
-    image: &mut [u8],
-    stream: &[u8],
+    d: Sound<Device>,
+    image: &mut Image,
+    course: &Course,
     answers: &mut [u8],
-    f: Frame,
-    behind: u32,
-    at: usize,
-    n: usize,
+    alone: BusAlone,
 ) -> Stretch
-    requires room { Room d image.old stream.now answers.old n }
-    requires at_lt_n { at < n }
-    requires behind_le_at { behind ≤ at }
-    requires d_value { sound_of (device_later behind f d) ≡ true }
-    ensures { Stretched stream.now at (world_later d image.old behind f) answers.old
-        n result.place (world result.device image.new) answers.new }
+    requires wide { course.now.ahead.to ≤ length answers.old }
+    requires place_lt_to { alone.place < course.now.ahead.to }
+    requires stays_sound { sound_of (device_later (alone.place - alone.from) alone.frame d.value) ≡ true }
+    ensures { Stretched course.now.ahead.stream.now alone.place
+        (world_later d.value image.old (alone.place - alone.from) alone.frame) answers.old
+        course.now.ahead.to result.place (world result.device image.new) answers.new }
 {
-    if stays_idle(f, sample_at(stream, at)) {
-        return stretch_idle(d, image, stream, answers, f, behind, at, n);
+    let chip = d.value.chip();
+    if stays_idle(alone.frame, sample_at(course.ahead.stream, alone.place)) {
+        return stretch_idle(d, image, course, answers, alone);
     }
-    if is_whole_frame(stream, d.part, d.straps, 2, at, n, 12) {
-        return stretch_write(d, image, stream, answers, f, behind, at, n);
+    if course
+        .ahead
+        .is_whole_frame(chip, FrameKind::Write, alone.place, 12)
+    {
+        return stretch_write(d, image, course, answers, alone);
     }
-    let e = device_later(d, image, f, behind);
-    stretch_clock(e, image, stream, answers, at, n)
+    let behind = (alone.place - alone.from) as u32;
+    let e = Sound {
+        value: device_later(d, image, alone.frame, behind),
+    };
+    stretch_clock(e, image, &course.ahead, answers, alone.place)
 }
 
 // The place from k on, n at most, up to which nothing is due in a controller.
-fn place_before_due(c: Controller, k: usize, n: usize) -> usize
-    requires c_value { controller_fits c ≡ true }
-    requires k_le_n { k ≤ n }
-    ensures { (k ≤ result) × (result ≤ n) × (result - k ≤ controller_before_due c) }
+fn place_before_due(c: Sound<Controller>, k: usize, n: usize) -> usize
+    requires { k ≤ n }
+    ensures k_le_result { k ≤ result }
+    ensures result_le_n { result ≤ n }
+    ensures before_due { result - k ≤ controller_before_due c.value }
 {
     let ahead = controller_before_due(c) as usize;
-    k + lesser(n - k, ahead)
+    k + (n - k).min(ahead)
 }
 
 // The samples from place k on, as many as are known by looking ahead: what the bus does alone, and then an idle stretch with
 // all that falls due in it, or a whole write, or else one clock.
-#[tactic(auto, using(crate::proofs::Steps::room_less, crate::proofs::Steps::room_later))]
+#[tactic(auto, using(soundness::proofs::Clauses::controller_sound))]
 fn run_stretch(
-    d: Device,
-    image: &mut [u8],
-    stream: &[u8],
+    d: Sound<Device>,
+    image: &mut Image,
+    course: &Course,
     answers: &mut [u8],
     k: usize,
-    n: usize,
 ) -> Stretch
-    requires room { Room d image.old stream.now answers.old n }
-    requires k_lt_n { k < n }
-    ensures { Stretched stream.now k (world d image.old) answers.old
-        n result.place (world result.device image.new) answers.new }
+    requires wide { course.now.ahead.to ≤ length answers.old }
+    requires k_lt_to { k < course.now.ahead.to }
+    ensures { Stretched course.now.ahead.stream.now k (world d.value image.old) answers.old
+        course.now.ahead.to result.place (world result.device image.new) answers.new }
 {
-    let c = d.controller;
-    let g = run_bus_alone(d, image, stream, answers, k, place_before_due(c, k, n));
-    let f = g.frame;
-    let at = g.place;
-    let behind = (at - k) as u32;
-    if at < n {
-        return stretch_on(d, image, stream, answers, f, behind, at, n);
+    let c = Sound {
+        value: d.value.controller,
+    };
+    let before_due = Ahead {
+        stream: course.ahead.stream,
+        to: place_before_due(c, k, course.ahead.to),
+    };
+    let alone = run_bus_alone(d, image, &before_due, answers, k);
+    if alone.place < course.ahead.to {
+        return stretch_on(d, image, course, answers, alone);
     }
+    let behind = (alone.place - k) as u32;
     Stretch {
-        device: device_later(d, image, f, behind),
-        place: at,
+        device: device_later(d, image, alone.frame, behind),
+        place: alone.place,
     }
 }
 
-// A sound device through every sample, each with its answer byte. The device stays sound, so that is not tested again.
+// A sound device through every sample, each with its answer byte. The device stays sound, so that is not tested again. No
+// `for`: a stretch goes as far as its samples allow.
 #[tactic(auto, using(crate::proofs::Leads::stays))]
-pub fn run_samples(device: Device, image: &mut [u8], stream: &[u8], answers: &mut [u8]) -> Device
-    requires device_value { sound_of device ≡ true }
-    requires image_len { length image.old ≡ 1048576 }
+pub fn run_samples(
+    device: Sound<Device>,
+    image: &mut Image,
+    stream: &[u8],
+    answers: &mut [u8],
+) -> Device
     requires stream_len_bound { length stream.now ≤ 131072 }
     requires stream_in_bounds { length stream.now / 2 ≤ length answers.old }
-    ensures { (world result image.new ≡ through (samples stream.now) (world device image.old))
+    ensures { (world result image.new ≡ through (samples stream.now) (world device.value image.old))
         × (answers.new
-        ≡ answers_to (samples stream.now) (world device image.old)
+        ≡ answers_to (samples stream.now) (world device.value image.old)
         ++ drop (length (samples stream.now)) answers.old) }
 {
     let n = stream.len() / 2;
+    let course = Course {
+        ahead: Ahead { stream, to: n },
+    };
     let mut d = device;
     let mut k: usize = 0;
     while k < n {
-        let t = run_stretch(d, image, stream, answers, k, n);
-        d = t.device;
+        let t = run_stretch(d, image, &course, answers, k);
+        d = Sound { value: t.device };
         k = t.place;
     }
-    d
+    d.value
 }

@@ -6,10 +6,12 @@ use Prim.Native.Nat.{ℕ, zero, suc, ◌+◌, ◌-◌, ◌<◌, ◌≤◌}
 use native.Mathlib.Nat.{add-zero}
 use native.Mathlib.Numerals.{add-one}
 use native.Mathlib.Omega.{arith}
-use lib.Dec.{leb}
-use lib.ListN.{length}
-use borrow.Author.Tests.{le-leb, lt-leb, leb-true}
-use Rattle.basics.proofs.Rules.{ask, yes, no, clash, and_left, and_right, and_both}
+use lib.Dec.{leb, ltb}
+use lib.ListN.{length, set, take, drop}
+use lib.Seq.{set_split, append_snoc}
+use borrow.Author.Tests.{le-leb, lt-leb, leb-true, ltb-true, ltb-false}
+use Rattle.std.specs.List.{fold, range_with_len}
+use Rattle.basics.proofs.Rules.{Answer, ask, yes, no, clash, and_left, and_right, and_both}
 use Rattle.basics.specs.Bytes.{filled}
 use Rattle.basics.proofs.Filled.{filled_none}
 use Rattle.basics.proofs.Joined.{filled_filled}
@@ -18,18 +20,18 @@ use Rattle.record.specs.Record.{is_lpc}
 use Rattle.record.specs.Sample.{lines, is_idle_sample, sample_at}
 use Rattle.lookahead.specs.Lookahead.{is_start, all_idle, address_over, address_at, start_of, head_fits, whole_frame, sixteen_idle, Skipped}
 
-pub idle_turn : (s : List ℕ) (k m n : ℕ) (all : Bool) → n ≡ m + 1
-    → ((all && is_idle_sample (sample_at s k)) && all_idle s (k + 1) m) ≡ (all && all_idle s k n)
-idle_turn s k m n true e = rw (e, add-one m)
-idle_turn s k m n false e = refl
+-- a fold over the places of n samples: all are idle, and the address that they shift in
+pub idle_fold : (s : List ℕ) (k n : ℕ) (all : Bool)
+    → fold (λ (a : Bool) (i : ℕ). a && is_idle_sample (sample_at s i)) all (range_with_len k n) ≡ (all && all_idle s k n)
+idle_fold s k zero true = refl
+idle_fold s k zero false = refl
+idle_fold s k (suc n) true = idle_fold s (k + 1) n (is_idle_sample (sample_at s k))
+idle_fold s k (suc n) false = idle_fold s (k + 1) n false
 
-pub idle_end : (all : Bool) → (all && true) ≡ all
-idle_end true = refl
-idle_end false = refl
-
-pub address_turn : (part : ℕ) (s : List ℕ) (k m n address : ℕ) → n ≡ m + 1
-    → address_over part s (k + 1) m (shifted part address (lines (sample_at s k))) ≡ address_over part s k n address
-address_turn part s k m n address e = rw (e, add-one m)
+pub address_fold : (part : ℕ) (s : List ℕ) (k n address : ℕ)
+    → fold (λ (a i : ℕ). shifted part a (lines (sample_at s i))) address (range_with_len k n) ≡ address_over part s k n address
+address_fold part s k zero address = refl
+address_fold part s k (suc n) address = address_fold part s (k + 1) n (shifted part address (lines (sample_at s k)))
 
 -- one nibble more
 pub address_more : (part : ℕ) (s : List ℕ) (k n a : ℕ)
@@ -100,28 +102,11 @@ idle_join s k (suc m) n a b =
     (and_both (is_idle_sample (sample_at s k)) (all_idle s (k + 1) (m + n)) (and_left (is_idle_sample (sample_at s k)) (all_idle s (k + 1) m) a)
     (idle_join s (k + 1) m n (and_right (is_idle_sample (sample_at s k)) (all_idle s (k + 1) m) a) (rw y at b)))
 
--- what has been skipped up to a place, and from there to another
+-- nothing has been skipped up to where it began
 pub skipped_none : (s answers : List ℕ) (k : ℕ) → Skipped s answers k k answers
 skipped_none s answers k =
     let x : k - k ≡ 0 = omega arith in
     record { idle = rw x; zeros = rw x (filled_none answers k 0) }
-
-pub skipped_more : (s a b c : List ℕ) (k l m : ℕ)
-    → k ≤ l
-    → l ≤ m
-    → m ≤ length a
-    → Skipped s a k l b
-    → Skipped s b l m c
-    → Skipped s a k m c
-skipped_more s a b c k l m h i j p q =
-    let x : m - k ≡ l - k + (m - l) = omega arith in
-    let y : k + (l - k) ≡ l = omega arith in
-    record {
-      idle = rw x (idle_join s k (l - k) (m - l) p.idle (rw y q.idle));
-      zeros =
-          q.zeros
-          ∙ rw (p.zeros, x, ← filled_filled a k (l - k) (m - l) 0 (omega arith), y);
-    }
 
 -- sixteen at once, and one
 pub sixteen_idle_lem : (s a : List ℕ) (k : ℕ) → all_idle s k 16 ≡ true → Skipped s a k (k + 16) (filled a k 16 0)
@@ -133,3 +118,49 @@ pub one_idle : (s a : List ℕ) (k : ℕ) → is_idle_sample (sample_at s k) ≡
 one_idle s a k e =
     let x : k + 1 - k ≡ 1 = omega arith in
     record { idle = rw (x, e); zeros = rw x }
+
+-- what has been skipped up to a place, and from there to another
+pub skipped_more : {s a b c : List ℕ} {k l m : ℕ}
+    → k ≤ l
+    → l ≤ m
+    → m ≤ length a
+    → Skipped s a k l b
+    → Skipped s b l m c
+    → Skipped s a k m c
+skipped_more {s} {a} {b} {c} {k} {l} {m} h i j p q =
+    let x : m - k ≡ l - k + (m - l) = omega arith in
+    let y : k + (l - k) ≡ l = omega arith in
+    record {
+      idle = rw x (idle_join s k (l - k) (m - l) p.idle (rw y q.idle));
+      zeros =
+          q.zeros
+          ∙ rw (p.zeros, x, ← filled_filled a k (l - k) (m - l) 0 (omega arith), y);
+    }
+
+-- and sixteen more at once, or one
+module _ (s a b : List ℕ) (k l : ℕ) (h : k ≤ l) (p : Skipped s a k l b) where
+  pub skipped_sixteen : (to : ℕ) → to ≤ length a → sixteen_idle s l to ≡ true → Skipped s a k (l + 16) (filled b l 16 0)
+  skipped_sixteen to i e =
+      let t = sixteen s l to e in
+      skipped_more h (omega arith) (omega (arith, t.0)) p (sixteen_idle_lem s b l t.1)
+
+  pub skipped_one : l < length b → length b ≡ length a → is_idle_sample (sample_at s l) ≡ true → Skipped s a k (l + 1) (set b l 0)
+  skipped_one i j e =
+      let x : set b l 0 ≡ filled b l 1 0 = set_split b l 0 i ∙ sym (append_snoc (take l b) 0 (drop (suc l) b)) ∙ rw (add-one l) in
+      skipped_more h (omega arith) (omega arith) p (rw x (one_idle s b l e))
+
+-- from an idle sample on to a place that is the end or not idle, it goes further
+pub skipped_further : (s : List ℕ) (k m n : ℕ)
+    → k < n
+    → k ≤ m
+    → is_idle_sample (sample_at s k) ≡ true
+    → (m < n → is_idle_sample (sample_at s m) ≡ false)
+    → k < m
+skipped_further s k m n h i e f = pick (ask (ltb k m))
+  where
+    pick : Answer (ltb k m) → k < m
+    pick (yes t) = ltb-true k m t
+    pick (no t) =
+        let l = ltb-false k m t in
+        let q : m ≡ k = omega arith in
+        clash (sym (rw q at (f (omega arith))) ∙ e)

@@ -5,6 +5,8 @@ use Rattle.record.specs.declared.Frame.{Frame}
 use Rattle.record.specs.Record.{is_lpc, idle, is_idle, is_read}
 use Rattle.record.specs.Sample.{lines, frame_line, is_reset, is_idle_sample, sample_at}
 use Rattle.basics.specs.Bytes.{filled}
+use Rattle.lookahead.specs.declared.FrameKind.{FrameKind}
+use Rattle.lookahead.specs.declared.FrameKind.TheVariants.{NoFrame, Read, Write}
 use Rattle.bus.specs.Frames.{shifted, is_chosen}
 
 -- a frame begins with this nibble: the frame line is low, and nothing resets
@@ -35,6 +37,12 @@ stays_idle f sample = cond (is_idle_sample sample) (is_frame_over f) false
 
 unfoldable pub ended_frame : Frame → Frame
 ended_frame f = cond (is_idle f) f idle
+
+-- a kind of frame as the number that it has in a frame
+abbrev pub number_of : FrameKind → ℕ
+number_of NoFrame = 0
+number_of Read = 1
+number_of Write = 2
 
 -- the nibble with which a frame of a kind (1 reads, 2 writes) begins
 unfoldable pub start_of : ℕ → ℕ → ℕ

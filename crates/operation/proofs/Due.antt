@@ -30,22 +30,22 @@ effect_due o = pick (ask (ltb 1 o.left.0)) (ask (is_program o)) (ask (ltb 1 o.sl
 
 -- what becomes of the operation
 module _ (o : Operation) where
-  pub counted : ltb 1 o.left.0 ≡ true → (operation_clock o).operation ≡ paused_of (with_left o o.slices (clocks (o.left.0 - 1)))
+  pub counted : ltb 1 o.left.0 ≡ true → (operation_clock o).after ≡ paused_of (with_left o o.slices (clocks (o.left.0 - 1)))
   unfolding operation_clock
   counted l = rw l
 
   pub next_slice : ltb 1 o.left.0 ≡ false
       → is_program o ≡ false
       → ltb 1 o.slices ≡ true
-      → (operation_clock o).operation ≡ paused_of (with_left o (o.slices - 1) (clocks (o.times.slice.0 * 33)))
+      → (operation_clock o).after ≡ paused_of (with_left o (o.slices - 1) (clocks (o.times.slice.0 * 33)))
   unfolding operation_clock in_clocks
   next_slice l p s = rw (l, p, s)
 
-  pub program_ended : ltb 1 o.left.0 ≡ false → is_program o ≡ true → (operation_clock o).operation ≡ absent
+  pub program_ended : ltb 1 o.left.0 ≡ false → is_program o ≡ true → (operation_clock o).after ≡ absent
   unfolding operation_clock
   program_ended l p = rw (l, p)
 
-  pub erase_ended : ltb 1 o.left.0 ≡ false → is_program o ≡ false → ltb 1 o.slices ≡ false → (operation_clock o).operation ≡ absent
+  pub erase_ended : ltb 1 o.left.0 ≡ false → is_program o ≡ false → ltb 1 o.slices ≡ false → (operation_clock o).after ≡ absent
   unfolding operation_clock
   erase_ended l p s = rw (l, p, s)
 

@@ -1,18 +1,20 @@
 -- What soundness tells of an operation and of the active one, as plain facts. Assumes nothing.
-use mathlib.Core.Path.{◌≡◌, sym}
+use Rattle.std.proofs.lemmas.Bool.Decides.{nat_tests}
+use mathlib.Core.Path.{◌≡◌}
 use mathlib.Core.Bool.{true, false, cond}
 use Prim.Native.Nat.{◌≤◌, ◌<◌}
+use native.Mathlib.Omega.{arith}
 use borrow.Author.Tests.{leb-true, ltb-true, ne_eqb}
-use Rattle.basics.proofs.Rules.{Answer, yes, no, ask, clash}
+use Rattle.basics.proofs.Rules.{Answer, yes, no, ask}
 use Rattle.basics.proofs.All.{holds}
 use Rattle.units.specs.Units.{times_fit}
 use Rattle.units.proofs.Ranges.{Ranges, ranges}
 use Rattle.record.specs.declared.Operation.{Operation}
 use Rattle.record.specs.declared.Controller.{Controller}
-use Rattle.record.specs.Record.{is_absent}
+use Rattle.record.specs.Record.{is_absent, block_of}
 use Rattle.soundness.specs.Sound.{operation_fits, left_fits, state_fits, outer_fits, inner_fits, inside, controller_fits}
 use Rattle.effect.specs.declared.Effect.TheVariants.{Nothing}
-use Rattle.operation.specs.Clock.{active, is_still, controller_clocked, controller_clock}
+use Rattle.operation.specs.Clock.{active, is_still, with_effect, controller_clock}
 
 pub record Fits (o : Operation) : Type 0 where
   pub times : times_fit o.times ≡ true
@@ -31,6 +33,10 @@ fits o e =
       left = holds _ 2 e;
       state = holds _ 3 e;
     }
+
+-- so its address lies in one of the sixteen blocks
+pub block_below : (o : Operation) → operation_fits o ≡ true → block_of o.address < 16
+block_below o e = let f = fits o e in omega arith
 
 -- an erase has 1 to 256 slices to fill
 pub record Slices (o : Operation) : Type 0 where
@@ -51,14 +57,16 @@ pub inner_fits_lem : (c : Controller) → controller_fits c ≡ true → is_abse
 unfolding controller_fits inner_fits inside
 inner_fits_lem c e a = holds _ 5 (rw a at (holds _ 3 e))
 
+pub outer_address : (c : Controller) → controller_fits c ≡ true → is_absent c.outer ≡ false → c.outer.address < 1048576
+outer_address c e a = (fits c.outer (outer_fits_lem c e a)).address
+
+pub inner_address : (c : Controller) → controller_fits c ≡ true → is_absent c.inner ≡ false → c.inner.address < 1048576
+inner_address c e a = (fits c.inner (inner_fits_lem c e a)).address
+
 -- what counts is there
 pub moving : (o : Operation) → is_still o ≡ false → is_absent o ≡ false
 unfolding is_still
-moving o e = pick (ask (is_absent o))
-  where
-    pick : Answer (is_absent o) → is_absent o ≡ false
-    pick (no a) = a
-    pick (yes a) = clash (sym (rw a at e))
+moving o e = grind (arith, nat_tests)
 
 pub active_fits : (c : Controller) → controller_fits c ≡ true → is_absent (active c) ≡ false → operation_fits (active c) ≡ true
 unfolding active
@@ -69,6 +77,6 @@ active_fits c e = pick (ask (is_absent c.inner))
     pick (no a) = λ n. rw a (inner_fits_lem c e a)
 
 -- where nothing counts, a clock changes nothing
-pub still_clocked : (c : Controller) → is_still (active c) ≡ true → controller_clock c ≡ controller_clocked c Nothing false
+pub still_clocked : (c : Controller) → is_still (active c) ≡ true → controller_clock c ≡ with_effect c Nothing false
 unfolding controller_clock
 still_clocked c e = rw e

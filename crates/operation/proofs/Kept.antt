@@ -1,4 +1,5 @@
 -- A clock of the controller, and reset, take a sound controller to a sound controller. Assumes nothing.
+use Rattle.std.proofs.lemmas.Bool.Decides.{nat_tests}
 use mathlib.Core.Path.{◌≡◌, ◌∙◌, sym, refl, ap}
 use mathlib.Core.Bool.{true, false, not}
 use Prim.Native.Nat.{ℕ, ◌-◌, ◌*◌, ◌≤◌, ◌<◌}
@@ -96,16 +97,7 @@ pub record Same (o n : Operation) : Type 0 where
 
 pub paused_same : (o : Operation) → Same o (paused_of o)
 unfolding paused_of
-paused_same o = pick (ask (is_pausing o)) (ask (ltb 1 o.pause.0))
-  where
-    pick : Answer (is_pausing o) → Answer (ltb 1 o.pause.0) → Same o (paused_of o)
-    pick (yes p) (yes l) =
-        rw (p, l) (record { kind = refl; address = refl; byte = refl; slices = refl; left = refl; times = refl; running = λ r. r })
-    pick (yes p) (no l) =
-        rw (p, l)
-        (record { kind = refl; address = refl; byte = refl; slices = refl; left = refl; times = refl; running = λ r. clash (sym (pausing_only o p) ∙ r) })
-    pick (no p) l =
-        rw p (record { kind = refl; address = refl; byte = refl; slices = refl; left = refl; times = refl; running = λ r. r })
+paused_same o = grind (arith, nat_tests)
 
 -- a count that goes on
 left_most : (o : Operation) → operation_fits o ≡ true → (is_program o ≡ true → o.left.0 ≤ o.times.program.0 * 33) × (is_program o ≡ false → o.left.0 ≤ o.times.slice.0 * 33)
@@ -161,11 +153,11 @@ paused_after o n e k a s =
     let m = paused_same n in
     goes (paused_fits n e) (m.kind ∙ k) (m.address ∙ a) (λ r. m.running (ap (λ (x : ℕ). eqb x 0) s ∙ r))
 
-pub operation_clock_after : (o : Operation) → operation_fits o ≡ true → After o (operation_clock o).operation
+pub operation_clock_after : (o : Operation) → operation_fits o ≡ true → After o (operation_clock o).after
 unfolding operation_clock
 operation_clock_after o e = pick (ask (ltb 1 o.left.0)) (ask (is_program o)) (ask (ltb 1 o.slices))
   where
-    pick : Answer (ltb 1 o.left.0) → Answer (is_program o) → Answer (ltb 1 o.slices) → After o (operation_clock o).operation
+    pick : Answer (ltb 1 o.left.0) → Answer (is_program o) → Answer (ltb 1 o.slices) → After o (operation_clock o).after
     pick (yes a) p s =
         rw a
         (paused_after o (with_left o o.slices (clocks (o.left.0 - 1))) (relleft o o.slices (clocks (o.left.0 - 1)) e (left_less o e a)) refl refl refl)
@@ -282,11 +274,11 @@ replaced_fits c n marks e m = pick (ask (is_absent c.inner))
         (inner_after c.outer c.inner n k.inner i (rw i at f))
         (unset c e m))
 
-pub controller_clock_kept : (c : Controller) → controller_fits c ≡ true → controller_fits (controller_clock c).controller ≡ true
+pub controller_clock_kept : (c : Controller) → controller_fits c ≡ true → controller_fits (controller_clock c).after ≡ true
 unfolding controller_clock
 controller_clock_kept c e = pick (ask (is_still (active c)))
   where
-    pick : Answer (is_still (active c)) → controller_fits (controller_clock c).controller ≡ true
+    pick : Answer (is_still (active c)) → controller_fits (controller_clock c).after ≡ true
     pick (yes a) = rw a e
     pick (no a) =
         rw a

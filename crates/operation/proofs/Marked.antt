@@ -1,5 +1,6 @@
 -- The marks: setting or clearing one block's mark touches that one alone, and only an erase that finishes removes one.
 -- Assumes nothing.
+use Rattle.std.proofs.lemmas.Bool.Decides.{nat_tests}
 use mathlib.Core.Path.{◌≡◌, ◌∙◌, sym, ap}
 use mathlib.Core.Bool.{true, false, cond}
 use mathlib.Core.List.{[]}
@@ -11,7 +12,7 @@ use borrow.Author.Tests.{eq-eqb, ne_eqb}
 use Rattle.basics.proofs.Rules.{Answer, yes, no, ask, clash}
 use Rattle.basics.proofs.Table.{at, at2}
 use Rattle.record.specs.declared.Controller.{Controller}
-use Rattle.record.specs.Record.{is_absent, is_erase}
+use Rattle.record.specs.Record.{is_erase}
 use Rattle.operation.specs.Marks.{marked, marking, clearing}
 use Rattle.operation.specs.Clock.{active, is_still, marks_after, replaced, controller_clock}
 
@@ -71,21 +72,13 @@ module _ (m c b : ℕ) (h : c < 16) (l : b < 16) where
 
 -- the marks after a clock
 pub controller_clock_marks : (c : Controller)
-    → (controller_clock c).controller.marks
+    → (controller_clock c).after.marks
     ≡ cond (is_still (active c)) c.marks (marks_after c.marks (active c) (controller_clock c).finished)
 unfolding controller_clock replaced
-controller_clock_marks c = pick (ask (is_still (active c))) (ask (is_absent c.inner))
-  where
-    pick : Answer (is_still (active c))
-        → Answer (is_absent c.inner)
-        → (controller_clock c).controller.marks
-        ≡ cond (is_still (active c)) c.marks (marks_after c.marks (active c) (controller_clock c).finished)
-    pick (yes a) i = rw a
-    pick (no a) (yes i) = rw (a, i)
-    pick (no a) (no i) = rw (a, i)
+controller_clock_marks c = grind (arith, nat_tests)
 
 -- a clock on which no erase finishes leaves every mark
-pub marks_left : (c : Controller) → cond (controller_clock c).finished (is_erase (active c)) false ≡ false → (controller_clock c).controller.marks ≡ c.marks
+pub marks_left : (c : Controller) → cond (controller_clock c).finished (is_erase (active c)) false ≡ false → (controller_clock c).after.marks ≡ c.marks
 unfolding marks_after
 marks_left c e = controller_clock_marks c ∙ pick (ask (is_still (active c))) (ask (controller_clock c).finished) (ask (is_erase (active c)))
   where

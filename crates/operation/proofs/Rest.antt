@@ -79,11 +79,11 @@ pub operation_clock_rest : (o : Operation) (d : List ℕ)
     → operation_fits o ≡ true
     → is_absent o ≡ false
     → length d ≡ 1048576
-    → rest (operation_clock o).operation (applied (operation_clock o).effect d) ≡ rest o d
+    → rest (operation_clock o).after (applied (operation_clock o).effect d) ≡ rest o d
 unfolding operation_clock
 operation_clock_rest o d e a n = pick (ask (ltb 1 o.left.0)) (ask (is_program o)) (ask (ltb 1 o.slices))
   where
-    pick : Answer (ltb 1 o.left.0) → Answer (is_program o) → Answer (ltb 1 o.slices) → rest (operation_clock o).operation (applied (operation_clock o).effect d) ≡ rest o d
+    pick : Answer (ltb 1 o.left.0) → Answer (is_program o) → Answer (ltb 1 o.slices) → rest (operation_clock o).after (applied (operation_clock o).effect d) ≡ rest o d
     pick (yes l) p s =
         rw l
         (rest_same (with_left o o.slices (clocks (o.left.0 - 1))) (paused_of (with_left o o.slices (clocks (o.left.0 - 1)))) d

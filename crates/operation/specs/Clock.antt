@@ -7,8 +7,7 @@ use Rattle.record.specs.declared.Controller.{Controller}
 use Rattle.record.specs.Record.{is_absent, is_program, is_erase, is_pausing, is_suspended, with_pause, with_left, absent, block_of}
 use Rattle.effect.specs.declared.Effect.{Effect}
 use Rattle.effect.specs.declared.Effect.TheVariants.{Nothing, Program, Fill}
-use Rattle.operation.specs.declared.OperationClocked.{OperationClocked}
-use Rattle.operation.specs.declared.ControllerClocked.{ControllerClocked}
+use Rattle.operation.specs.declared.Counted.{Counted}
 use Rattle.operation.specs.Marks.{clearing}
 
 -- the operation that counts: a program inside a suspended erase counts while the erase stands still
@@ -30,18 +29,19 @@ paused_of o =
 unfoldable pub slice_at : Operation → ℕ
 slice_at o = block_of o.address * 65536 + (256 - o.slices) * 256
 
-abbrev pub operation_clocked : Operation → Effect → Bool → OperationClocked
-operation_clocked o e finished = record { operation = o; effect = e; finished = finished }
+-- what is there after a clock, what the clock did to the array, and whether an operation finished
+abbrev pub with_effect : {T : Type 0} → T → Effect → Bool → Counted T
+with_effect x e finished = record { after = x; effect = e; finished = finished }
 
 -- an operation counts one clock. A program stores its byte on its last clock; an erase fills a slice at the end of
 -- the slice's time. An operation that ends on this clock is finished, and a pause that it had is dropped with it
-unfoldable pub operation_clock : Operation → OperationClocked
+unfoldable pub operation_clock : Operation → Counted Operation
 operation_clock o =
-    cond (ltb 1 o.left.0) (operation_clocked (paused_of (with_left o o.slices (clocks (o.left.0 - 1)))) Nothing false)
-    (cond (is_program o) (operation_clocked absent (Program o.address o.«data») true)
+    cond (ltb 1 o.left.0) (with_effect (paused_of (with_left o o.slices (clocks (o.left.0 - 1)))) Nothing false)
+    (cond (is_program o) (with_effect absent (Program o.address o.«data») true)
     (cond (ltb 1 o.slices)
-    (operation_clocked (paused_of (with_left o (o.slices - 1) (in_clocks o.times.slice))) (Fill (slice_at o) 256 255) false)
-    (operation_clocked absent (Fill (slice_at o) 256 255) true)))
+    (with_effect (paused_of (with_left o (o.slices - 1) (in_clocks o.times.slice))) (Fill (slice_at o) 256 255) false)
+    (with_effect absent (Fill (slice_at o) 256 255) true)))
 
 -- a finished erase removes its block's mark, and nothing else does
 unfoldable pub marks_after : ℕ → Operation → Bool → ℕ
@@ -54,13 +54,10 @@ replaced c o marks =
     (record { mode = c.mode; errors = c.errors; setup = c.setup; marks = marks; outer = o; inner = c.inner })
     (record { mode = c.mode; errors = c.errors; setup = c.setup; marks = marks; outer = c.outer; inner = o })
 
-abbrev pub controller_clocked : Controller → Effect → Bool → ControllerClocked
-controller_clocked c e finished = record { controller = c; effect = e; finished = finished }
-
-abbrev pub with_clocked : Controller → OperationClocked → ControllerClocked
+abbrev pub with_clocked : Controller → Counted Operation → Counted Controller
 with_clocked c t =
-    controller_clocked (replaced c t.operation (marks_after c.marks (active c) t.finished)) t.effect t.finished
+    with_effect (replaced c t.after (marks_after c.marks (active c) t.finished)) t.effect t.finished
 
 -- one clock of the controller
-unfoldable pub controller_clock : Controller → ControllerClocked
-controller_clock c = cond (is_still (active c)) (controller_clocked c Nothing false) (with_clocked c (operation_clock (active c)))
+unfoldable pub controller_clock : Controller → Counted Controller
+controller_clock c = cond (is_still (active c)) (with_effect c Nothing false) (with_clocked c (operation_clock (active c)))

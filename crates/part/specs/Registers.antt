@@ -2,10 +2,10 @@
 -- FBC0100h, maker at FBC0000h, device at FBC0001h. Document 02, #101 (000, Table 12): on LPC the lock of block b at FF800002h +
 -- b times 10000h and inputs at FF8C0100h, both with bits 21 and 20 as the pins say; no maker and no device. Nothing elsewhere.
 -- Assumes nothing.
-use Rattle.std.specs.Prelude.{ℕ, zero, suc, ◌+◌, ◌-◌, ◌*◌, Bool, cond, List, [], ◌∷◌, ◌++◌, eqb, ltb}
+use Rattle.std.specs.Prelude.{ℕ, zero, suc, ◌+◌, ◌-◌, ◌*◌, Bool, cond, Option, Some, None, List, [], ◌∷◌, ◌++◌, eqb, ltb}
 use Rattle.record.specs.Record.{is_lpc}
 use Rattle.part.specs.declared.Register.{Register}
-use Rattle.part.specs.declared.Register.TheVariants.{Lock, Inputs, MakerCode, DeviceCode, Missing}
+use Rattle.part.specs.declared.Register.TheVariants.{Lock, Inputs, MakerCode, DeviceCode}
 use Rattle.part.specs.Parts.{window_of}
 
 -- where a part's registers begin
@@ -35,11 +35,11 @@ registers lpc =
     ++ (entry 0xC0100 Inputs ∷ cond lpc [] (entry 0xC0000 MakerCode ∷ entry 0xC0001 DeviceCode ∷ []))
 
 -- the first of some entries at an offset
-abbrev pub first_at : List Entry → ℕ → Register
-first_at [] offset = Missing
-first_at (e ∷ es) offset = cond (eqb e.at offset) e.what (first_at es offset)
+abbrev pub first_at : List Entry → ℕ → Option Register
+first_at [] offset = None
+first_at (e ∷ es) offset = cond (eqb e.at offset) (Some e.what) (first_at es offset)
 
-unfoldable pub register_at : ℕ → ℕ → ℕ → Register
+unfoldable pub register_at : ℕ → ℕ → ℕ → Option Register
 register_at part straps address =
-    cond (ltb address (register_base part straps)) Missing
+    cond (ltb address (register_base part straps)) None
     (first_at (registers (is_lpc part)) (address - register_base part straps))

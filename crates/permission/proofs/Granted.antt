@@ -4,12 +4,12 @@ use mathlib.Core.Path.{◌≡◌, ap}
 use mathlib.Core.Bool.{Bool, true, false}
 use Prim.Native.Nat.{ℕ, ◌%◌}
 use lib.Dec.{eqb}
+use Rattle.std.specs.Prelude.{Result, Ok, Err}
 use Rattle.basics.proofs.Rules.{Answer, yes, no, ask, clash}
 use Rattle.record.specs.declared.Operation.{Operation}
 use Rattle.record.specs.Record.{block_of}
 use Rattle.record.specs.Sample.{voltage}
-use Rattle.permission.specs.declared.Judgement.{Judgement}
-use Rattle.permission.specs.declared.Judgement.TheVariants.{Granted, Voltage, Pin, Lock, Suspended}
+use Rattle.permission.specs.declared.Denial.{Denial}
 use Rattle.permission.specs.Permission.{pin_low, into_suspended, judged}
 
 pub record Allowed (setup : ℕ) (outer : Operation) (sample lock address : ℕ) : Type 0 where
@@ -18,15 +18,12 @@ pub record Allowed (setup : ℕ) (outer : Operation) (sample lock address : ℕ)
   pub unlocked : eqb (lock % 2) 1 ≡ false
   pub apart : into_suspended setup outer address ≡ false
 
-abbrev is_granted : Judgement → Bool
-is_granted Granted = true
-is_granted Voltage = false
-is_granted Pin = false
-is_granted Lock = false
-is_granted Suspended = false
+abbrev is_granted : Result Unit Denial → Bool
+is_granted (Ok u) = true
+is_granted (Err x) = false
 
 pub granted : (setup : ℕ) (outer : Operation) (sample lock address : ℕ)
-    → judged setup outer sample lock address ≡ Granted
+    → judged setup outer sample lock address ≡ Ok tt
     → Allowed setup outer sample lock address
 unfolding judged
 granted setup outer sample lock address e = pick (ask (eqb (voltage sample) 0)) (ask (pin_low sample (block_of address))) (ask (eqb (lock % 2) 1)) (ask (into_suspended setup outer address))

@@ -1,11 +1,11 @@
 -- Document 01, "permission is judged once": from the sample of the write that ends the setup and the lock register as it
 -- is then. Assumes nothing.
-use Rattle.std.specs.Prelude.{ℕ, ◌%◌, Bool, false, cond, eqb}
+use Rattle.std.specs.Prelude.{ℕ, ◌%◌, Bool, false, cond, eqb, Result, Ok, Err}
 use Rattle.record.specs.declared.Operation.{Operation}
 use Rattle.record.specs.Record.{is_erase, is_suspended, block_of}
 use Rattle.record.specs.Sample.{tbl, wp, voltage}
-use Rattle.permission.specs.declared.Judgement.{Judgement}
-use Rattle.permission.specs.declared.Judgement.TheVariants.{Granted, Voltage, Pin, Lock, Suspended}
+use Rattle.permission.specs.declared.Denial.{Denial}
+use Rattle.permission.specs.declared.Denial.TheVariants.{Voltage, Pin, Lock, Suspended}
 
 -- TBL low for block 15, WP low for the others
 unfoldable pub pin_low : ℕ → ℕ → Bool
@@ -19,9 +19,9 @@ into_suspended setup outer address =
     false
 
 -- class 0; else the pin or lock bit 0; else the suspended block (house). One failure only
-unfoldable pub judged : ℕ → Operation → ℕ → ℕ → ℕ → Judgement
+unfoldable pub judged : ℕ → Operation → ℕ → ℕ → ℕ → Result Unit Denial
 judged setup outer sample lock address =
-    cond (eqb (voltage sample) 0) Voltage
-    (cond (pin_low sample (block_of address)) Pin
-    (cond (eqb (lock % 2) 1) Lock
-    (cond (into_suspended setup outer address) Suspended Granted)))
+    cond (eqb (voltage sample) 0) (Err Voltage)
+    (cond (pin_low sample (block_of address)) (Err Pin)
+    (cond (eqb (lock % 2) 1) (Err Lock)
+    (cond (into_suspended setup outer address) (Err Suspended) (Ok tt))))

@@ -1,5 +1,7 @@
 -- Document 01, "What can be called" and "Numbered answers", and document 02, #101: power up and set times. Assumes nothing.
-use Rattle.std.specs.Prelude.{ℕ, ◌≡◌, cond, leb}
+use Rattle.std.specs.Prelude.{ℕ, ◌≡◌, cond, leb, Result, Ok, Err}
+use Rattle.basics.specs.declared.refusal.Refusal.{Refusal}
+use Rattle.basics.specs.Refusals.{code_of}
 use Rattle.units.specs.declared.Times.{Times}
 use Rattle.units.specs.Units.{times, times_fit}
 use Rattle.record.specs.declared.Device.{Device}
@@ -33,6 +35,16 @@ times_set d program slice pause =
     cond (sound_of d)
     (cond (times_fit (times program slice pause)) (powered 0 (with_times d (times program slice pause))) (powered 4 d))
     (powered 1 d)
+
+-- what is given for a device that comes up, or for the refusal
+abbrev pub up_told : Result Device Refusal → Powered
+up_told (Ok d) = powered 0 d
+up_told (Err r) = power_refused (code_of r)
+
+-- what is given for the device d with other times, or for the refusal
+abbrev pub set_told : Device → Result Device Refusal → Powered
+set_told d (Ok next) = powered 0 next
+set_told d (Err r) = powered (code_of r) d
 
 -- what power up gives for a part, straps and three times
 abbrev pub PowersUp : ℕ → ℕ → ℕ → ℕ → ℕ → Powered → Type 0

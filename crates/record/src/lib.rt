@@ -1,17 +1,22 @@
 // The structs that a host keeps, and what a sample's bits say. The structs hold numbers only, so that any bytes at all are
-// a device and soundness is tested, never assumed; what the numbers stand for is said in this room's specs.
+// a device and soundness is tested, never assumed; what the numbers stand for is said in this room's specs. C has these structs
+// as they are, so a kind, a state, a mode, a setup and a part are numbers in them.
 #![tactic(auto)]
 
-ghost use Rattle.std.specs.Prelude.{◌≡◌, ◌+◌, ◌*◌, ◌<◌, length};
+ghost use Rattle.std.specs.Prelude.{◌≡◌, ◌+◌, ◌*◌, ◌/◌, ◌%◌, ◌^◌, ◌<◌, length};
 ghost use Rattle.record.specs.Record.{idle, absent};
 ghost use Rattle.record.specs.Sample.{lines, frame_line, rp, init, tbl, wp, voltage, inputs, is_reset, is_idle_sample, sample_at};
 
 use basics::two_at;
-use units::{Clocks, Micros, Times};
+use units::{Clocks, Times};
+
+mod nibble;
+
+pub use nibble::Nibble;
 
 // The frame in progress: which kind, the last clock of it that is done, the byte and the address as far as they are known.
 #[repr(C)]
-#[derive(Clone, Copy)]
+#[derive(Clone, Copy, Default)]
 pub struct Frame {
     pub kind: u8,
     pub clock: u8,
@@ -21,7 +26,7 @@ pub struct Frame {
 
 // An operation, with its own copy of the times as they stood when it was accepted.
 #[repr(C)]
-#[derive(Clone, Copy)]
+#[derive(Clone, Copy, Default)]
 pub struct Operation {
     pub kind: u8,
     pub state: u8,
@@ -35,7 +40,7 @@ pub struct Operation {
 
 // All that a command or a clock of an operation can change. Neither pins nor locks are in it.
 #[repr(C)]
-#[derive(Clone, Copy)]
+#[derive(Clone, Copy, Default)]
 pub struct Controller {
     pub mode: u8,
     pub errors: u8,
@@ -56,74 +61,83 @@ pub struct Device {
     pub controller: Controller,
 }
 
+// Which part a device is, by its number as in the record, and its straps: by these a frame is for it, and its registers have their
+// places.
+#[derive(Clone, Copy)]
+pub struct Chip {
+    pub part: u8,
+    pub straps: u8,
+}
+
+impl Device {
+    pub fn chip(&self) -> Chip
+        ensures part { result.part ≡ self.now.part }
+        ensures straps { result.straps ≡ self.now.straps }
+    {
+        Chip {
+            part: self.part,
+            straps: self.straps,
+        }
+    }
+}
+
 // No frame.
 pub fn idle_frame() -> Frame
     ensures { result ≡ idle }
 {
-    Frame {
-        kind: 0,
-        clock: 0,
-        byte: 0,
-        address: 0,
-    }
+    Frame::default()
 }
 
 // No operation.
 pub fn no_operation() -> Operation
     ensures { result ≡ absent }
 {
-    let none = Times {
-        program: Micros(0),
-        slice: Micros(0),
-        pause: Micros(0),
-    };
-    Operation {
-        kind: 0,
-        state: 0,
-        data: 0,
-        address: 0,
-        slices: 0,
-        left: Clocks(0),
-        pause: Clocks(0),
-        times: none,
-    }
+    Operation::default()
 }
 
-// The sixteen bits of a sample, by name.
-pub fn lines(sample: u16) -> u8
+// The sixteen bits of a sample, by name; one bit is 0 or 1, as the definitions have it.
+pub fn lines(sample: u16) -> Nibble
     ensures { result ≡ lines sample }
 {
-    (sample % 16) as u8
+    Nibble::low((sample % 16) as u8)
+}
+
+// The bit at a place.
+fn bit<const PLACE: u32>(sample: u16) -> u16
+    requires { PLACE < 16 }
+    ensures { result ≡ sample / 2 ^ PLACE % 2 }
+{
+    (sample >> PLACE) % 2
 }
 
 pub fn frame_line(sample: u16) -> u16
     ensures { result ≡ frame_line sample }
 {
-    sample / 16 % 2
+    bit::<4>(sample)
 }
 
 pub fn rp(sample: u16) -> u16
     ensures { result ≡ rp sample }
 {
-    sample / 32 % 2
+    bit::<5>(sample)
 }
 
 pub fn init(sample: u16) -> u16
     ensures { result ≡ init sample }
 {
-    sample / 64 % 2
+    bit::<6>(sample)
 }
 
 pub fn tbl(sample: u16) -> u16
     ensures { result ≡ tbl sample }
 {
-    sample / 128 % 2
+    bit::<7>(sample)
 }
 
 pub fn wp(sample: u16) -> u16
     ensures { result ≡ wp sample }
 {
-    sample / 256 % 2
+    bit::<8>(sample)
 }
 
 pub fn voltage(sample: u16) -> u16
@@ -139,24 +153,19 @@ pub fn inputs(sample: u16) -> u8
 }
 
 // Whether RP or INIT is low.
+#[tactic(auto, unfolding(crate::specs::Sample::is_reset))]
 pub fn is_reset(sample: u16) -> bool
     ensures { result ≡ is_reset sample }
 {
-    if rp(sample) == 0 {
-        return true;
-    }
-    init(sample) == 0
+    rp(sample) == 0 || init(sample) == 0
 }
 
 // Whether the frame line is high and nothing resets.
-#[tactic(auto, using(basics::proofs::Rules::cases), unfolding(crate::specs::Sample::is_idle_sample))]
+#[tactic(auto, unfolding(crate::specs::Sample::is_idle_sample))]
 pub fn is_idle_sample(sample: u16) -> bool
     ensures { result ≡ is_idle_sample sample }
 {
-    if is_reset(sample) {
-        return false;
-    }
-    frame_line(sample) == 1
+    !is_reset(sample) && frame_line(sample) == 1
 }
 
 // The sample at place k of a stream.

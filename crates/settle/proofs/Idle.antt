@@ -29,7 +29,7 @@ module _ (sample : ℕ) (h : is_idle_sample sample ≡ true) where
   idle_onward : (d : Device) (image : List ℕ)
       → is_idle d.frame ≡ true
       → onward (world d image) sample
-      ≡ world (with_controller d (controller_clock d.controller).controller) (applied (controller_clock d.controller).effect image)
+      ≡ world (with_controller d (controller_clock d.controller).after) (applied (controller_clock d.controller).effect image)
   unfolding onward device_clock image_after served_of frame_clock asked_of
   idle_onward d image e =
       let i = idle_sample sample h in
@@ -49,7 +49,7 @@ module _ (sample : ℕ) (h : is_idle_sample sample ≡ true) where
         | yes s ↦ rw (ready_still d f, s, s)
         | no s ↦
             rw (ready_still d f, s, idle_onward d image e)
-            (settles n (count + 1) (with_controller d (controller_clock d.controller).controller) (applied (controller_clock d.controller).effect image) (controller_clock_kept d.controller f) e)
+            (settles n (count + 1) (with_controller d (controller_clock d.controller).after) (applied (controller_clock d.controller).effect image) (controller_clock_kept d.controller f) e)
       ]
 
   -- and so from what a wait gave, with clocks done before

@@ -1,12 +1,15 @@
 -- Document 01, "Settle": one idle sample is repeated up to N times; the count is the least number of samples after which
 -- status bit 7 is 1, and 0 if it is 1 already. Assumes nothing.
-use Rattle.std.specs.Prelude.{ℕ, zero, suc, ◌+◌, ◌/◌, ◌%◌, ◌≡◌, Bool, true, cond, List, eqb, length}
+use Rattle.std.specs.Prelude.{ℕ, zero, suc, ◌+◌, ◌/◌, ◌%◌, ◌≡◌, Bool, true, cond, List, eqb, length, Result, Ok, Err}
+use Rattle.basics.specs.declared.refusal.Refusal.{Refusal}
+use Rattle.basics.specs.Refusals.{code_of}
 use Rattle.record.specs.declared.Device.{Device}
 use Rattle.record.specs.Sample.{voltage, is_idle_sample}
 use Rattle.status.specs.Status.{status_of}
 use Rattle.soundness.specs.Sound.{sound_of}
 use Rattle.clock.specs.Fold.{World, world, onward}
 use Rattle.settle.specs.declared.Settled.{Settled}
+use Rattle.fast_forward.specs.declared.Forwarded.{Forwarded}
 
 -- status bit 7 is 1
 unfoldable pub is_ready : Device → Bool
@@ -44,6 +47,11 @@ stop_number ready = cond ready 0 10
 
 abbrev pub stopped : Stop → Settled
 stopped s = settled (stop_number s.ready) s.count s.world.device
+
+-- what is given for a wait that is over, or for the refusal
+abbrev pub settle_told : Device → Result (Forwarded Device) Refusal → Settled
+settle_told d (Ok w) = settled (stop_number (is_ready w.after)) w.count w.after
+settle_told d (Err r) = settled (code_of r) 0 d
 
 unfoldable pub settled_of : Device → List ℕ → ℕ → ℕ → Settled
 settled_of d image sample limit =

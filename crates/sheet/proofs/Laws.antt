@@ -1,6 +1,6 @@
 -- Which number reading and writing give when; reading what was written gives the values back, and writing what was read
 -- gives the bytes back. Assumes nothing.
-use mathlib.Core.Path.{◌≡◌, ◌∙◌, refl}
+use mathlib.Core.Path.{◌≡◌, ◌∙◌, refl, ap}
 use mathlib.Core.Bool.{true, false}
 use mathlib.Core.List.{List, [], ◌∷◌, ◌++◌}
 use Prim.Native.Nat.{ℕ, ◌<◌, ◌≤◌}
@@ -14,9 +14,11 @@ use Rattle.basics.proofs.All.{holds}
 use Rattle.basics.proofs.Rules.{ask, yes, no}
 use Rattle.units.specs.declared.Times.{Times}
 use Rattle.units.specs.Units.{times, times_fit}
-use Rattle.sheet.specs.declared.Reading.TheVariants.{Holds, BadLayout, BadStraps, BadTimes}
+use Rattle.std.specs.Prelude.{Ok, Err}
+use Rattle.basics.specs.declared.refusal.Refusal.TheVariants.{Layout, Straps, Times as BadTimes}
 use Rattle.basics.specs.Bytes.{two_at}
-use Rattle.sheet.specs.Sheet.{laid, field_at, of_layout, straps_in, times_in, read_of, sheet_written, write_of}
+use Rattle.sheet.specs.declared.Bay.{Bay}
+use Rattle.sheet.specs.Sheet.{laid, bay, field_at, of_layout, straps_in, times_in, read_of, sheet_written, write_of}
 use Rattle.sheet.proofs.Places.{thirteen, head, spelled, halves, halved}
 
 -- document 01's example
@@ -27,21 +29,21 @@ example = refl
 
 -- 8 wherever the layout is missed, 3 only where it is not, 4 only where neither is
 module _ (s : List ℕ) where
-  pub read_8 : of_layout s ≡ false → read_of s ≡ BadLayout
+  pub read_8 : of_layout s ≡ false → read_of s ≡ Err Layout
   unfolding read_of
   read_8 e = rw e
 
   module _ (e : of_layout s ≡ true) where
-    pub read_3 : 15 < straps_in s → read_of s ≡ BadStraps
+    pub read_3 : 15 < straps_in s → read_of s ≡ Err Straps
     unfolding read_of
     read_3 h = rw (e, lt-ltb 15 (straps_in s) h)
 
     module _ (h : straps_in s ≤ 15) where
-      pub read_4 : times_fit (times_in s) ≡ false → read_of s ≡ BadTimes
+      pub read_4 : times_fit (times_in s) ≡ false → read_of s ≡ Err BadTimes
       unfolding read_of
       read_4 f = rw (e, le-ltb 15 (straps_in s) h, f)
 
-      pub read_0 : times_fit (times_in s) ≡ true → read_of s ≡ Holds (straps_in s) (times_in s)
+      pub read_0 : times_fit (times_in s) ≡ true → read_of s ≡ Ok (bay (straps_in s) (times_in s))
       unfolding read_of
       read_0 f = rw (e, le-ltb 15 (straps_in s) h, f)
 
@@ -107,7 +109,7 @@ module _ (s : List ℕ) (bytes : (i : ℕ) → get_or s i 0 < 256) (e : of_layou
 
 -- reading what was written
 module _ (straps program slice pause : ℕ) (h : straps ≤ 15) (fits : times_fit (times program slice pause) ≡ true) where
-  pub read_laid : read_of (laid straps program slice pause) ≡ Holds straps (times program slice pause)
+  pub read_laid : read_of (laid straps program slice pause) ≡ Ok (bay straps (times program slice pause))
   read_laid =
       let l = laid_layout straps program slice pause in
       let n = laid_straps straps program slice pause in
@@ -116,7 +118,7 @@ module _ (straps program slice pause : ℕ) (h : straps ≤ 15) (fits : times_fi
 
   pub read_written : (buffer : List ℕ)
       → 13 ≤ length buffer
-      → read_of (take 13 (write_of buffer straps program slice pause).buffer) ≡ Holds straps (times program slice pause)
+      → read_of (take 13 (write_of buffer straps program slice pause).buffer) ≡ Ok (bay straps (times program slice pause))
   read_written buffer room =
       let l = laid_length straps program slice pause in
       rw (write_0 buffer straps program slice pause h fits room, take_at (laid straps program slice pause) (drop 13 buffer) 13 l)
@@ -133,7 +135,7 @@ pub record Held (s : List ℕ) (straps : ℕ) (t : Times) : Type 0 where
 never : {A : Type 0} → ◌≡◌ {A = ℕ} 0 1 → A
 never e = absurd (omega arith)
 
-pub held : (s : List ℕ) (straps : ℕ) (t : Times) → read_of s ≡ Holds straps t → Held s straps t
+pub held : (s : List ℕ) (straps : ℕ) (t : Times) → read_of s ≡ Ok (bay straps t) → Held s straps t
 held s straps t e =
     elim (ask (of_layout s)) [
       | no a ↦ never (cc (read_8 s a))
@@ -142,14 +144,22 @@ held s straps t e =
         | no b ↦ let h : straps_in s ≤ 15 = ltb-false 15 (straps_in s) b in
             elim (ask (times_fit (times_in s))) [
               | no f ↦ never (cc (read_4 s a h f))
-              | yes f ↦ let r = read_0 s a h f in
-                  record { layout = a; straps_in_lem = (cc); times_in_lem = (cc); most = h; fits = f }
+              | yes f ↦
+                  let r = read_0 s a h f in
+                  let same : bay (straps_in s) (times_in s) ≡ bay straps t = (cc) in
+                  record {
+                    layout = a;
+                    straps_in_lem = ap (λ (b : Bay). b.straps) same;
+                    times_in_lem = ap (λ (b : Bay). b.times) same;
+                    most = h;
+                    fits = f;
+                  }
             ]
       ]
     ]
 
 -- writing what was read
-module _ (s : List ℕ) (bytes : (i : ℕ) → get_or s i 0 < 256) (straps : ℕ) (t : Times) (e : read_of s ≡ Holds straps t) where
+module _ (s : List ℕ) (bytes : (i : ℕ) → get_or s i 0 < 256) (straps : ℕ) (t : Times) (e : read_of s ≡ Ok (bay straps t)) where
   pub laid_read : s ≡ laid straps t.program.0 t.slice.0 t.pause.0
   laid_read = let g = held s straps t e in layout_laid s bytes g.layout ∙ rw (← g.times_in_lem, g.straps_in_lem)
 

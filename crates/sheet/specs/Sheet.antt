@@ -1,12 +1,14 @@
 -- Document 01, "Bay sheet": fields of a one-byte tag, a two-byte length and a value, the straps under tag 01h, then the
 -- three times under tag 02h, and nothing else; what reading some bytes gives, and what writing leaves. Assumes nothing.
-use Rattle.std.specs.Prelude.{ℕ, ◌+◌, ◌/◌, ◌%◌, ◌≡◌, Bool, cond, List, [], ◌∷◌, ◌++◌, eqb, ltb, length, get_or, drop}
+use Rattle.std.specs.Prelude.{ℕ, ◌+◌, ◌/◌, ◌%◌, ◌≡◌, Bool, cond, List, [], ◌∷◌, ◌++◌, eqb, ltb, length, get_or, drop, Result, Ok, Err}
 use Rattle.basics.specs.All.{all}
 use Rattle.basics.specs.Bytes.{two_at}
+use Rattle.basics.specs.declared.refusal.Refusal.{Refusal}
+use Rattle.basics.specs.declared.refusal.Refusal.TheVariants.{Layout, Straps, Times as BadTimes}
+use Rattle.basics.specs.Refusals.{code_of}
 use Rattle.units.specs.declared.Times.{Times}
 use Rattle.units.specs.Units.{times, times_fit}
-use Rattle.sheet.specs.declared.Reading.{Reading}
-use Rattle.sheet.specs.declared.Reading.TheVariants.{Holds, BadLayout, BadStraps, BadTimes}
+use Rattle.sheet.specs.declared.Bay.{Bay}
 use Rattle.sheet.specs.declared.Sheet.{Sheet}
 
 -- a number in two bytes, lower first
@@ -36,12 +38,20 @@ straps_in s = get_or s 3 0
 abbrev pub times_in : List ℕ → Times
 times_in s = times (two_at s 7) (two_at s 9) (two_at s 11)
 
+abbrev pub bay : ℕ → Times → Bay
+bay straps ts = record { straps = straps; times = ts }
+
+-- what some bytes are as a sheet
+abbrev pub Reading : Type 0
+Reading = Result Bay Refusal
+
 -- the layout is tested first, then the straps, then the times
 unfoldable pub read_of : List ℕ → Reading
 read_of s =
     cond (of_layout s)
-    (cond (ltb 15 (straps_in s)) BadStraps (cond (times_fit (times_in s)) (Holds (straps_in s) (times_in s)) BadTimes))
-    BadLayout
+    (cond (ltb 15 (straps_in s)) (Err Straps)
+    (cond (times_fit (times_in s)) (Ok (bay (straps_in s) (times_in s))) (Err BadTimes)))
+    (Err Layout)
 
 abbrev pub sheet : ℕ → ℕ → ℕ → ℕ → ℕ → Sheet
 sheet number straps program slice pause =
@@ -49,10 +59,8 @@ sheet number straps program slice pause =
 
 -- the numbered answer of a reading: 0 with the values; 8, 3 and 4 with zeros
 abbrev pub numbers_of : Reading → Sheet
-numbers_of (Holds straps t) = sheet 0 straps t.program.0 t.slice.0 t.pause.0
-numbers_of BadLayout = sheet 8 0 0 0 0
-numbers_of BadStraps = sheet 3 0 0 0 0
-numbers_of BadTimes = sheet 4 0 0 0 0
+numbers_of (Ok b) = sheet 0 b.straps b.times.program.0 b.times.slice.0 b.times.pause.0
+numbers_of (Err r) = sheet (code_of r) 0 0 0 0
 
 -- a number, and the buffer as it is left
 pub record SheetWritten : Type 0 where

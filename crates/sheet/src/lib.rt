@@ -1,23 +1,21 @@
 // The bay sheet: the straps and the three times of a bay in thirteen bytes, read and written.
 #![tactic(auto)]
 
-ghost use Rattle.std.specs.Prelude.{◌≡◌, ◌++◌, ◌+◌, ◌*◌, ◌/◌, ◌%◌, ◌<◌, ◌≤◌, length, drop};
-ghost use Rattle.basics.specs.Bytes.{two_at};
-ghost use Rattle.sheet.specs.Sheet.{laid, field_at, of_layout, times_in, numbers_of, Reads, ReadsNumbers, WritesSheet};
+ghost use Rattle.std.specs.Prelude.{◌≡◌, ◌+◌, ◌<◌, length};
+ghost use Rattle.basics.specs.Refusals.{number_of};
+ghost use Rattle.sheet.specs.Sheet.{two, laid, field_at, of_layout, times_in, sheet_written, write_of, Reads, ReadsNumbers, WritesSheet};
 
-use basics::two_at;
-use units::{Micros, Times, are_times, times_fit, times_of};
+use basics::{Refusal, two_at};
+use units::{Micros, Times};
 
-// What some bytes are as a sheet.
+// The straps and the times of a bay.
 #[derive(Clone, Copy)]
-pub enum Reading {
-    Holds { straps: u8, times: Times },
-    BadLayout,
-    BadStraps,
-    BadTimes,
+pub struct Bay {
+    pub straps: u8,
+    pub times: Times,
 }
 
-// The numbered answer of a reading, with the values or zeros.
+// The numbered answer of a reading, with the values or zeros, as C gets them.
 #[repr(C)]
 #[derive(Clone, Copy)]
 pub struct Sheet {
@@ -28,26 +26,19 @@ pub struct Sheet {
     pub pause: u32,
 }
 
+#[tactic(auto, using(basics::proofs::Rules::cases), unfolding(crate::specs::Sheet::field_at, basics::specs::All::all))]
 fn field_at(s: &[u8], at: usize, tag: u8, size: u16) -> bool
     requires { at + 2 < length s.now }
     ensures { result ≡ field_at s.now at tag size }
 {
-    if s[at] == tag {
-        return two_at(s, at + 1) == size;
-    }
-    false
+    s[at] == tag && two_at(s, at + 1) == size
 }
 
+#[tactic(auto, using(basics::proofs::Rules::cases), unfolding(crate::specs::Sheet::of_layout, basics::specs::All::all))]
 fn of_layout(s: &[u8]) -> bool
     ensures { result ≡ of_layout s.now }
 {
-    if s.len() == 13 {
-        if field_at(s, 0, 1, 1) {
-            return field_at(s, 4, 2, 6);
-        }
-        return false;
-    }
-    false
+    s.len() == 13 && field_at(s, 0, 1, 1) && field_at(s, 4, 2, 6)
 }
 
 fn times_in(s: &[u8]) -> Times
@@ -61,77 +52,60 @@ fn times_in(s: &[u8]) -> Times
     }
 }
 
-pub fn read(sheet: &[u8]) -> Reading
+#[tactic(auto, using(basics::proofs::Rules::cases, crate::proofs::Places::thirteen), unfolding(crate::specs::Sheet::read_of))]
+pub fn read(sheet: &[u8]) -> Result<Bay, Refusal>
     ensures { Reads sheet.now result }
 {
-    if of_layout(sheet) {
-        let straps = sheet[3];
-        if 15 < straps {
-            return Reading::BadStraps;
-        }
-        let times = times_in(sheet);
-        if times_fit(times) {
-            return Reading::Holds { straps, times };
-        }
-        return Reading::BadTimes;
+    if !of_layout(sheet) {
+        return Err(Refusal::Layout);
     }
-    Reading::BadLayout
-}
-
-fn numbers(reading: Reading) -> Sheet
-    ensures { result ≡ numbers_of reading }
-{
-    match reading {
-        Reading::Holds { straps, times } => Sheet {
-            number: 0,
-            straps: straps as u32,
-            program: times.program.0 as u32,
-            slice: times.slice.0 as u32,
-            pause: times.pause.0 as u32,
-        },
-        Reading::BadLayout => refused(8),
-        Reading::BadStraps => refused(3),
-        Reading::BadTimes => refused(4),
+    let straps = sheet[3];
+    if 15 < straps {
+        return Err(Refusal::Straps);
     }
-}
-
-fn refused(number: u32) -> Sheet
-    ensures { result ≡ Rattle.sheet.specs.Sheet.sheet number 0 0 0 0 }
-{
-    Sheet {
-        number,
-        straps: 0,
-        program: 0,
-        slice: 0,
-        pause: 0,
+    let times = times_in(sheet);
+    if !times.fit() {
+        return Err(Refusal::Times);
     }
+    Ok(Bay { straps, times })
 }
 
 // A reading as numbers alone.
 pub fn read_numbers(sheet: &[u8]) -> Sheet
     ensures { ReadsNumbers sheet.now result }
 {
-    numbers(read(sheet))
+    match read(sheet) {
+        Ok(Bay { straps, times }) => Sheet {
+            number: 0,
+            straps: straps as u32,
+            program: times.program.0 as u32,
+            slice: times.slice.0 as u32,
+            pause: times.pause.0 as u32,
+        },
+        Err(refusal) => Sheet {
+            number: refusal.number(),
+            straps: 0,
+            program: 0,
+            slice: 0,
+            pause: 0,
+        },
+    }
 }
 
-fn low(n: u16) -> u8
-    ensures { result ≡ n % 256 }
+// A number in two bytes, lower first.
+fn two(n: u16) -> [u8; 2]
+    ensures { result ≡ two n }
 {
-    (n % 256) as u8
+    n.to_le_bytes()
 }
 
-fn high(n: u16) -> u8
-    ensures { result ≡ n / 256 }
-{
-    (n / 256) as u8
-}
-
+#[tactic(auto, unfolding(crate::specs::Sheet::laid))]
 fn bytes_of(straps: u8, t: Times) -> [u8; 13]
     ensures { result ≡ laid straps t.program.0 t.slice.0 t.pause.0 }
 {
-    let program = t.program.0;
-    let slice = t.slice.0;
-    let pause = t.pause.0;
+    let [program, program_high] = two(t.program.0);
+    let [slice, slice_high] = two(t.slice.0);
+    let [pause, pause_high] = two(t.pause.0);
     [
         1,
         1,
@@ -140,43 +114,41 @@ fn bytes_of(straps: u8, t: Times) -> [u8; 13]
         2,
         6,
         0,
-        low(program),
-        high(program),
-        low(slice),
-        high(slice),
-        low(pause),
-        high(pause),
+        program,
+        program_high,
+        slice,
+        slice_high,
+        pause,
+        pause_high,
     ]
 }
 
-// The bytes in front of a buffer that has room for them.
-#[tactic(auto, using(crate::proofs::Front::front_more, crate::proofs::Front::front_all))]
-fn put(buffer: &mut [u8], bytes: [u8; 13])
-    requires { 13 ≤ length buffer.old }
-    ensures { buffer.new ≡ bytes ++ drop 13 buffer.old }
+// The bytes in front of a buffer that has room for them, or the refusal with the buffer as it was. Straps and times are C's numbers.
+#[tactic(auto, using(basics::proofs::Rules::cases), unfolding(crate::specs::Sheet::write_of))]
+fn try_write(
+    buffer: &mut [u8],
+    straps: u32,
+    program: u32,
+    slice: u32,
+    pause: u32,
+) -> Result<(), Refusal>
+    ensures { sheet_written (number_of result) buffer.new ≡ write_of buffer.old straps program slice pause }
 {
-    let mut i: usize = 0;
-    while i < 13 {
-        buffer[i] = bytes[i];
-        i += 1;
+    if 15 < straps {
+        return Err(Refusal::Straps);
     }
+    let times = Times::new(program, slice, pause).ok_or(Refusal::Times)?;
+    let front = buffer.first_chunk_mut::<13>().ok_or(Refusal::Room)?;
+    *front = bytes_of(straps as u8, times);
+    Ok(())
 }
 
+// The number of that, as C gets it.
 pub fn write(buffer: &mut [u8], straps: u32, program: u32, slice: u32, pause: u32) -> u32
     ensures { WritesSheet buffer.old straps program slice pause result buffer.new }
 {
-    if 15 < straps {
-        return 3;
+    match try_write(buffer, straps, program, slice, pause) {
+        Ok(()) => 0,
+        Err(refusal) => refusal.number(),
     }
-    if are_times(program, slice, pause) {
-        if buffer.len() < 13 {
-            return 6;
-        }
-        put(
-            buffer,
-            bytes_of(straps as u8, times_of(program, slice, pause)),
-        );
-        return 0;
-    }
-    4
 }

@@ -37,6 +37,10 @@ pub parts : (d : Device) → sound_of d ≡ true → Parts d
 unfolding sound_of
 parts d e = record { straps = holds _ 0 e; locks = holds _ 1 e; times = holds _ 2 e; frame = holds _ 3 e; controller = holds _ 4 e }
 
+-- a sound device's controller is sound
+pub controller_sound : (d : Device) → sound_of d ≡ true → controller_fits d.controller ≡ true
+controller_sound d e = (parts d e).controller
+
 pub joined : (d : Device) → Parts d → sound_of d ≡ true
 unfolding sound_of
 joined d p = also _ p.straps (also _ p.locks (also _ p.times (also _ p.frame (also _ p.controller none))))

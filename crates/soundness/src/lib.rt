@@ -2,88 +2,58 @@
 #![tactic(auto)]
 
 ghost use Rattle.std.specs.Prelude.{◌≡◌};
-ghost use Rattle.soundness.specs.Sound.{all_below, counts, left_fits, state_fits, operation_fits, outer_fits, apart, inside, inner_fits, setup_kinds, known_from, address_limit, stage_fits, begun_fits, frame_fits, controller_fits, sound_of};
+ghost use Rattle.soundness.specs.Sound.{all_below, counts, left_fits, state_fits, outer_fits, apart, inside, inner_fits, setup_kinds, known_from, address_limit, stage_fits, begun_fits, frame_fits};
 
-use basics::both;
-use part::{Part, block_of, strap_count};
-use record::{Controller, Device, Frame, Operation};
-use status::{Condition, condition_of};
-use units::{Clocks, Micros, in_clocks, times_fit};
+mod tested;
+
+use part::{Kind, Lpc, block_of};
+use record::{Frame, Operation};
+use status::Condition;
+pub use tested::{Sound, Soundness};
+use units::{Clocks, Micros};
 
 // Whether each of the sixteen numbers is below n.
-#[tactic(auto, using(crate::proofs::Below::stops, crate::proofs::Below::goes_on))]
 fn all_below(n: u8, xs: [u8; 16]) -> bool
     ensures { result ≡ all_below n xs }
 {
-    let mut i: usize = 0;
-    while i < 16 {
-        if n <= xs[i] {
-            return false;
-        }
-        i += 1;
-    }
-    true
+    xs.iter().all(|&x| x < n)
 }
 
 // Whether a number of clocks is from 1 to the full number of a time.
+#[tactic(auto, unfolding(crate::specs::Sound::counts, basics::specs::All::all))]
 fn is_counted(c: Clocks, m: Micros) -> bool
     ensures { result ≡ counts c m }
 {
-    let full = in_clocks(m);
-    both(1 <= c.0, c.0 <= full.0)
+    (1..=Clocks::from(m).0).contains(&c.0)
 }
 
+#[tactic(auto, unfolding(crate::specs::Sound::left_fits, basics::specs::All::all))]
 fn left_fits(o: Operation) -> bool
     ensures { result ≡ left_fits o }
 {
-    let t = o.times;
-    let left = o.left;
     if o.kind == 1 {
-        let program = t.program;
-        return is_counted(left, program);
+        is_counted(o.left, o.times.program)
+    } else {
+        (1..=256).contains(&o.slices) && is_counted(o.left, o.times.slice)
     }
-    let slice = t.slice;
-    both(
-        1 <= o.slices,
-        both(o.slices <= 256, is_counted(left, slice)),
-    )
 }
 
+#[tactic(auto, unfolding(crate::specs::Sound::state_fits))]
 fn state_fits(o: Operation) -> bool
     ensures { result ≡ state_fits o }
 {
-    if o.state == 0 {
-        return true;
+    match o.state {
+        0 | 2 => true,
+        1 => is_counted(o.pause, o.times.pause),
+        _ => false,
     }
-    if o.state == 1 {
-        let t = o.times;
-        let pause = o.pause;
-        let time = t.pause;
-        return is_counted(pause, time);
-    }
-    o.state == 2
 }
 
-fn operation_fits(o: Operation) -> bool
-    ensures { result ≡ operation_fits o }
-{
-    let t = o.times;
-    both(
-        times_fit(t),
-        both(
-            (o.address as usize) < Part::BYTES,
-            both(left_fits(o), state_fits(o)),
-        ),
-    )
-}
-
+#[tactic(auto, unfolding(crate::specs::Sound::outer_fits, basics::specs::All::all))]
 fn outer_fits(o: Operation) -> bool
     ensures { result ≡ outer_fits o }
 {
-    if o.kind == 0 {
-        return true;
-    }
-    both(o.kind < 3, operation_fits(o))
+    o.kind == 0 || (o.kind < 3 && o.is_sound())
 }
 
 // Whether two addresses lie in different blocks.
@@ -94,34 +64,23 @@ fn is_apart(a: u32, b: u32) -> bool
     block_of(a) != block_of(b)
 }
 
+#[tactic(auto, unfolding(crate::specs::Sound::inside, basics::specs::All::all))]
 fn is_inside(outer: Operation, inner: Operation) -> bool
     ensures { result ≡ inside outer inner }
 {
-    both(
-        inner.kind == 1,
-        both(
-            inner.state == 0,
-            both(
-                outer.kind == 2,
-                both(
-                    outer.state == 2,
-                    both(
-                        is_apart(outer.address, inner.address),
-                        operation_fits(inner),
-                    ),
-                ),
-            ),
-        ),
-    )
+    inner.kind == 1
+        && inner.state == 0
+        && outer.kind == 2
+        && outer.state == 2
+        && is_apart(outer.address, inner.address)
+        && inner.is_sound()
 }
 
+#[tactic(auto, unfolding(crate::specs::Sound::inner_fits))]
 fn inner_fits(outer: Operation, inner: Operation) -> bool
     ensures { result ≡ inner_fits outer inner }
 {
-    if inner.kind == 0 {
-        return true;
-    }
-    is_inside(outer, inner)
+    inner.kind == 0 || is_inside(outer, inner)
 }
 
 // How many of the setup's numbers, from 0 on, may stand beside a condition.
@@ -130,108 +89,58 @@ fn setup_kinds(c: Condition) -> u8
 {
     match c {
         Condition::Ready => 3,
-        Condition::Running => 1,
-        Condition::Pausing => 1,
-        Condition::ProgramSuspended => 1,
         Condition::EraseSuspended => 2,
-        Condition::ProgramInside => 1,
+        Condition::Running
+        | Condition::Pausing
+        | Condition::ProgramSuspended
+        | Condition::ProgramInside => 1,
     }
 }
 
+// `part` is the number of C's record: the definitions speak of any, and an enum of the two parts would ask for one of them.
+
 // The clock on which a frame's direction is known.
+#[tactic(auto, unfolding(crate::specs::Sound::known_from))]
 fn known_from(part: u8) -> u8
     ensures { result ≡ known_from part }
 {
-    if part == 1 {
-        return 2;
-    }
-    1
+    if part == Lpc::NUMBER { 2 } else { 1 }
 }
 
 // The first number that has too many bits for an address.
+#[tactic(auto, unfolding(crate::specs::Sound::address_limit))]
 fn address_limit(part: u8) -> u64
     ensures { result ≡ address_limit part }
 {
-    if part == 1 {
-        return 0x100000000;
+    if part == Lpc::NUMBER {
+        0x100000000
+    } else {
+        0x10000000
     }
-    0x10000000
 }
 
 #[tactic(auto, unfolding(crate::specs::Sound::stage_fits, basics::specs::All::all))]
 fn stage_fits(part: u8, f: Frame, last: u8) -> bool
     ensures { result ≡ stage_fits part f last }
 {
-    both(
-        known_from(part) <= f.clock,
-        both(f.clock <= last, (f.address as u64) < address_limit(part)),
-    )
+    (known_from(part)..=last).contains(&f.clock) && (f.address as u64) < address_limit(part)
 }
 
+#[tactic(auto, unfolding(crate::specs::Sound::begun_fits, basics::specs::All::all))]
 fn begun_fits(part: u8, f: Frame) -> bool
     ensures { result ≡ begun_fits part f }
 {
-    both(
-        f.kind == 3,
-        both(
-            part == 1,
-            both(f.clock == 1, (f.address as u64) < address_limit(part)),
-        ),
-    )
+    f.kind == 3 && part == Lpc::NUMBER && f.clock == 1 && (f.address as u64) < address_limit(part)
 }
 
+#[tactic(auto, unfolding(crate::specs::Sound::frame_fits))]
 fn frame_fits(part: u8, f: Frame) -> bool
     ensures { result ≡ frame_fits part f }
 {
-    if f.kind == 0 {
-        return true;
+    match f.kind {
+        0 => true,
+        1 => stage_fits(part, f, 18),
+        2 => stage_fits(part, f, 16),
+        _ => begun_fits(part, f),
     }
-    if f.kind == 1 {
-        return stage_fits(part, f, 18);
-    }
-    if f.kind == 2 {
-        return stage_fits(part, f, 16);
-    }
-    begun_fits(part, f)
-}
-
-fn controller_fits(c: Controller) -> bool
-    ensures { result ≡ controller_fits c }
-{
-    let outer = c.outer;
-    let inner = c.inner;
-    both(
-        c.mode < 3,
-        both(
-            c.errors & 0x3A == c.errors,
-            both(
-                outer_fits(outer),
-                both(
-                    inner_fits(outer, inner),
-                    c.setup < setup_kinds(condition_of(c)),
-                ),
-            ),
-        ),
-    )
-}
-
-// Whether a device is sound: tested where one is handed in, and not on every clock.
-#[tactic(auto, unfolding(crate::specs::Sound::sound_of, basics::specs::All::all))]
-pub fn sound(d: Device) -> bool
-    ensures { result ≡ sound_of d }
-{
-    let locks = d.locks;
-    let times = d.times;
-    let frame = d.frame;
-    let controller = d.controller;
-    both(
-        (d.straps as u32) < strap_count(d.part as u32),
-        both(
-            all_below(8, locks),
-            both(
-                times_fit(times),
-                both(frame_fits(d.part, frame), controller_fits(controller)),
-            ),
-        ),
-    )
 }

@@ -17,25 +17,18 @@ pub enum Condition {
     ProgramInside,
 }
 
+#[tactic(auto, unfolding(crate::specs::Status::condition_of))]
 pub fn condition_of(c: Controller) -> Condition
     ensures { result ≡ condition_of c }
 {
-    if c.inner.kind == 0 {
-        if c.outer.kind == 0 {
-            return Condition::Ready;
-        }
-        if c.outer.state == 0 {
-            return Condition::Running;
-        }
-        if c.outer.state == 1 {
-            return Condition::Pausing;
-        }
-        if c.outer.kind == 1 {
-            return Condition::ProgramSuspended;
-        }
-        return Condition::EraseSuspended;
+    match (c.inner.kind, c.outer.kind, c.outer.state) {
+        (0, 0, _) => Condition::Ready,
+        (0, _, 0) => Condition::Running,
+        (0, _, 1) => Condition::Pausing,
+        (0, 1, _) => Condition::ProgramSuspended,
+        (0, _, _) => Condition::EraseSuspended,
+        _ => Condition::ProgramInside,
     }
-    Condition::ProgramInside
 }
 
 fn condition_bits(c: Condition) -> u8
@@ -43,8 +36,7 @@ fn condition_bits(c: Condition) -> u8
 {
     match c {
         Condition::Ready => 0x80,
-        Condition::Running => 0,
-        Condition::Pausing => 0,
+        Condition::Running | Condition::Pausing => 0,
         Condition::ProgramSuspended => 0x84,
         Condition::EraseSuspended => 0xC0,
         Condition::ProgramInside => 0x40,

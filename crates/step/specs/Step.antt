@@ -1,6 +1,8 @@
 -- Document 01, "Step" and "Numbered answers": 1 for an unsound device, 2 for an image of another length, 7 for voltage
 -- class 3, lowest first; a refusal leaves the image and returns the device handed in. Assumes nothing.
-use Rattle.std.specs.Prelude.{ℕ, ◌≡◌, cond, List, eqb, length}
+use Rattle.std.specs.Prelude.{ℕ, ◌≡◌, cond, List, eqb, length, Result, Ok, Err}
+use Rattle.basics.specs.declared.refusal.Refusal.{Refusal}
+use Rattle.basics.specs.Refusals.{code_of}
 use Rattle.record.specs.declared.Device.{Device}
 use Rattle.record.specs.Sample.{voltage}
 use Rattle.soundness.specs.Sound.{sound_of}
@@ -18,6 +20,11 @@ stepped number answer d = record { number = number; answer = answer; device = d 
 
 abbrev pub done : DeviceClocked → Stepped
 done a = stepped 0 a.answer a.device
+
+-- what is given for a clock that is done, or for the refusal
+abbrev pub step_told : Device → Result DeviceClocked Refusal → Stepped
+step_told d (Ok a) = done a
+step_told d (Err r) = stepped (code_of r) 0 d
 
 unfoldable pub stepped_of : Device → List ℕ → ℕ → Stepped
 stepped_of d image sample =

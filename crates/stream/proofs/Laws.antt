@@ -29,7 +29,7 @@ module _ (image stream answers : List ℕ) (part straps program slice pause : �
   pub refused : (run_number image stream answers part straps program slice pause ≡ 0 → ⊥)
       → ran_of image stream answers part straps program slice pause
       ≡ ran (report (run_number image stream answers part straps program slice pause) 0 0 0) image answers
-  refused n = sym (refuses image stream answers part straps program slice pause refl n)
+  refused n = sym (refuses image stream answers part straps program slice pause n)
 
   module _ (n : run_number image stream answers part straps program slice pause ≡ 0) where
     pub done : ran_of image stream answers part straps program slice pause

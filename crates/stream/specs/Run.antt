@@ -1,5 +1,7 @@
 -- Document 01, "Run", and document 02, #101: from power-up through a stream of samples. Assumes nothing.
-use Rattle.std.specs.Prelude.{ℕ, ◌/◌, ◌%◌, ◌≡◌, Bool, true, false, cond, List, [], ◌∷◌, ◌++◌, eqb, ltb, leb, length, drop}
+use Rattle.std.specs.Prelude.{ℕ, ◌/◌, ◌%◌, ◌≡◌, Bool, true, false, cond, List, [], ◌∷◌, ◌++◌, eqb, ltb, leb, length, drop, Result, Ok, Err}
+use Rattle.basics.specs.declared.refusal.Refusal.{Refusal}
+use Rattle.basics.specs.Refusals.{code_of}
 use Rattle.units.specs.Units.{times, times_fit}
 use Rattle.record.specs.Sample.{voltage, samples}
 use Rattle.part.specs.Fresh.{fresh_of}
@@ -44,6 +46,11 @@ pub record Ran : Type 0 where
 
 abbrev pub report : ℕ → ℕ → ℕ → ℕ → Report
 report number count status marks = record { number = number; samples = count; status = status; marks = marks }
+
+-- the report of a run that is done, or of the refusal
+abbrev pub run_told : Result Report Refusal → Report
+run_told (Ok r) = r
+run_told (Err r) = report (code_of r) 0 0 0
 
 abbrev pub ran : Report → List ℕ → List ℕ → Ran
 ran r image answers = record { report = r; image = image; answers = answers }

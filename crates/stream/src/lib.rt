@@ -1,18 +1,20 @@
 // Run: from power-up through a stream of samples.
 #![tactic(auto)]
 
-ghost use Rattle.std.specs.Prelude.{◌≡◌};
+ghost use Rattle.std.specs.Prelude.{◌≡◌, ◌/◌, ◌≤◌, length, OnOk};
+ghost use Rattle.basics.specs.Refusals.{number_of};
 ghost use Rattle.record.specs.Sample.{samples};
-ghost use Rattle.stream.specs.Run.{overvolted, stream_number, run_number, Runs};
+ghost use Rattle.stream.specs.Run.{overvolted, stream_number, run_told, ran, ran_of, Runs};
 
-use basics::either;
+use basics::Refusal;
 use fast_run::run_samples;
 use part::{Part, fresh, strap_count};
-use record::{Device, sample_at, voltage};
+use record::{Chip, sample_at, voltage};
+use soundness::Sound;
 use status::status;
-use units::{are_times, times_of};
+use units::Times;
 
-// The numbered answer of a run, samples done, the status register and the spoiled marks.
+// The numbered answer of a run, samples done, the status register and the spoiled marks, as C gets them.
 #[repr(C)]
 #[derive(Clone, Copy)]
 pub struct Report {
@@ -27,60 +29,65 @@ pub struct Report {
 fn is_overvolted(stream: &[u8]) -> bool
     ensures { result ≡ overvolted (samples stream.now) }
 {
-    let count = stream.len() / 2;
-    let mut over = false;
-    let mut k: usize = 0;
-    while k < count {
-        over = either(over, voltage(sample_at(stream, k)) == 3);
-        k += 1;
-    }
-    over
+    (0..stream.len() / 2).fold(false, |over, k| over | (voltage(sample_at(stream, k)) == 3))
 }
 
-// Which refusal a stream and an answer buffer meet, 0 for none. Every sample is tested here, and none is stepped.
+// Whether a stream and an answer buffer will do. Every sample is tested here, and none is stepped.
 #[tactic(auto, using(basics::proofs::Rules::cases), unfolding(crate::specs::Run::stream_number, crate::specs::Run::misshapen))]
-fn stream_number(stream: &[u8], answers: &[u8]) -> u32
-    ensures { result ≡ stream_number stream.now answers.now }
+fn test_stream(stream: &[u8], answers: &[u8]) -> Result<(), Refusal>
+    ensures number { number_of result ≡ stream_number stream.now answers.now }
+    ensures fits { OnOk result ((length stream.now ≤ 131072) × (length stream.now / 2 ≤ length answers.now)) }
 {
-    if 131072 < stream.len() {
-        return 5;
-    }
-    if stream.len() % 2 == 1 {
-        return 5;
+    if 131072 < stream.len() || stream.len() % 2 == 1 {
+        return Err(Refusal::Stream);
     }
     if answers.len() < stream.len() / 2 {
-        return 6;
+        return Err(Refusal::Room);
     }
     if is_overvolted(stream) {
-        return 7;
+        return Err(Refusal::Overvolted);
     }
-    0
+    Ok(())
 }
 
-// Which refusal a run meets, 0 for none.
-#[tactic(auto, using(basics::proofs::Rules::cases), unfolding(crate::specs::Run::run_number))]
-fn run_number(
-    image: &[u8],
+// A fresh device through the whole stream, of what C hands in, or the refusal with both buffers as they were. The chip is made here and not by
+// `part::chip_of`, as in a power up: tried, and the search for this proof then stops at its limits.
+#[tactic(auto, using(crate::proofs::Doors::mismatched, crate::proofs::Doors::unstrapped, crate::proofs::Doors::mistimed, crate::proofs::Doors::streamed, crate::proofs::Doors::refused_by, soundness::proofs::Fresh::fresh_sound, record::proofs::Samples::samples_length), unfolding(crate::specs::Run::ran_of))]
+fn try_run(
+    image: &mut [u8],
     stream: &[u8],
-    answers: &[u8],
+    answers: &mut [u8],
     part: u32,
     straps: u32,
     program: u32,
     slice: u32,
     pause: u32,
-) -> u32
-    ensures { result ≡ run_number image.now stream.now answers.now part straps program slice pause }
+) -> Result<Report, Refusal>
+    ensures { ran (run_told result) image.new answers.new
+        ≡ ran_of image.old stream.now answers.old part straps program slice pause }
 {
-    if image.len() == Part::BYTES {
-        if strap_count(part) <= straps {
-            return 3;
-        }
-        if are_times(program, slice, pause) {
-            return stream_number(stream, answers);
-        }
-        return 4;
+    let image = image
+        .as_mut_array::<{ Part::BYTES }>()
+        .ok_or(Refusal::Image)?;
+    if strap_count(part) <= straps {
+        return Err(Refusal::Straps);
     }
-    2
+    let times = Times::new(program, slice, pause).ok_or(Refusal::Times)?;
+    test_stream(stream, answers)?;
+    let chip = Chip {
+        part: part as u8,
+        straps: straps as u8,
+    };
+    let up = Sound {
+        value: fresh(chip, times),
+    };
+    let c = run_samples(up, image, stream, answers).controller;
+    Ok(Report {
+        number: 0,
+        samples: (stream.len() / 2) as u32,
+        status: status(c) as u32,
+        marks: c.marks as u32,
+    })
 }
 
 // Run: refused with nothing changed, or a fresh device through the whole stream.
@@ -97,22 +104,13 @@ pub fn run(
     ensures { Runs image.old stream.now answers.old part straps program slice pause result
         image.new answers.new }
 {
-    let number = run_number(image, stream, answers, part, straps, program, slice, pause);
-    if number == 0 {
-        let up = fresh(part as u8, straps as u8, times_of(program, slice, pause));
-        let last = run_samples(up, image, stream, answers);
-        let c = last.controller;
-        return Report {
-            number,
-            samples: (stream.len() / 2) as u32,
-            status: status(c) as u32,
-            marks: c.marks as u32,
-        };
-    }
-    Report {
-        number,
-        samples: 0,
-        status: 0,
-        marks: 0,
+    match try_run(image, stream, answers, part, straps, program, slice, pause) {
+        Ok(report) => report,
+        Err(refusal) => Report {
+            number: refusal.number(),
+            samples: 0,
+            status: 0,
+            marks: 0,
+        },
     }
 }

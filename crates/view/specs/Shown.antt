@@ -1,11 +1,13 @@
 -- Document 01, "Block view": a block's part of the image, or as much of the lent page of zeros where the block is
 -- read-locked, as bytes and as numbers. Assumes nothing.
-use Rattle.std.specs.Prelude.{ℕ, ◌*◌, ◌≡◌, Bool, true, cond, ◌&&◌, List, [], ◌∷◌, eqb, ltb, length, get_or, take, drop}
+use Rattle.std.specs.Prelude.{ℕ, ◌*◌, ◌≡◌, Bool, true, false, cond, ◌&&◌, List, [], ◌∷◌, eqb, ltb, length, get_or, take, drop}
 use Rattle.std.specs.Int.Bits.{bit_and}
 use Rattle.basics.specs.All.{all}
 use Rattle.record.specs.declared.Device.{Device}
 use Rattle.soundness.specs.Sound.{sound_of}
 use Rattle.view.specs.declared.Piece.{Piece}
+use Rattle.view.specs.declared.Sight.{Sight}
+use Rattle.view.specs.declared.Sight.TheVariants.{Nothing, Page, Block}
 
 abbrev pub all_zero : List ℕ → Bool
 all_zero [] = true
@@ -22,6 +24,12 @@ can_show d image page block = all (sound_of d ∷ eqb (length image) 1048576 ∷
 -- a block is read-locked by bit 2 of its lock register
 unfoldable pub read_locked : Device → ℕ → Bool
 read_locked d block = eqb (bit_and (get_or d.locks block 0) 4) 4
+
+-- what a reader sees: nothing where nothing can be shown; the page where the block is read-locked; else the block
+abbrev pub Sees : Device → List ℕ → List ℕ → ℕ → Sight → Type 0
+Sees d image page block Nothing = can_show d image page block ≡ false
+Sees d image page block Page = (can_show d image page block ≡ true) × (read_locked d block ≡ true)
+Sees d image page block (Block b) = (b ≡ block) × (can_show d image page block ≡ true) × (read_locked d block ≡ false)
 
 -- the bytes shown: the page's where the block is read-locked, else the block's own; nothing where nothing can be shown
 unfoldable pub shown : Device → List ℕ → List ℕ → ℕ → List ℕ

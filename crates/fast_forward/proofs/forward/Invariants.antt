@@ -9,8 +9,8 @@ use Rattle.fast_forward.proofs.forward.Given as goal
 abbrev pub invariant-loop-done : goal.invariant-loop-done
 invariant-loop-done l =
     (l.done ≤ l.n) × (length l.image ≡ length l.fn.image)
-    × (forwarding (l.n - l.done) l.done (replaced l.c l.o l.c.marks) l.image ≡ forwarding l.n 0 l.c l.fn.image)
-    × Counting l.c l.o
+    × (forwarding (l.n - l.done) l.done (replaced l.c l.o.0 l.c.marks) l.image ≡ forwarding l.n 0 l.c l.fn.image)
+    × Counting l.c l.o.0
 
 abbrev pub decreases-loop-done : goal.decreases-loop-done
 decreases-loop-done l = l.n - l.done

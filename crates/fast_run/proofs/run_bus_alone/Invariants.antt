@@ -6,8 +6,10 @@ use Rattle.fast_run.proofs.run_bus_alone.Given as goal
 
 abbrev pub invariant-loop-k : goal.invariant-loop-k
 invariant-loop-k l =
-    (l.k ≤ l.to)
-    × Simulates l.stream l.from (world l.initial.d l.initial.image) l.initial.answers l.k (world_later l.initial.d l.initial.image (l.k - l.from) l.f) l.answers
+    record {
+      within : l.k ≤ l.ahead.to;
+      simulates : Simulates l.ahead.stream.now l.from (world l.initial.d l.initial.image) l.initial.answers l.k (world_later l.initial.d l.initial.image (l.k - l.from) l.f) l.answers;
+    }
 
 abbrev pub decreases-loop-k : goal.decreases-loop-k
-decreases-loop-k l = l.to - l.k
+decreases-loop-k l = l.ahead.to - l.k

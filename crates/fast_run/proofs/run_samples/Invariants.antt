@@ -1,14 +1,15 @@
 -- The samples up to place k have led from the first world to the one there, and their answers stand in the buffer.
-use Rattle.std.proofs.Common.{◌≡◌, ◌-◌, ◌≤◌, true, length}
-use Rattle.soundness.specs.Sound.{sound_of}
+use Rattle.std.proofs.Common.{◌-◌, ◌≤◌}
 use Rattle.clock.specs.Fold.{world}
 use Rattle.fast_run.specs.Stretch.{Simulates}
 use Rattle.fast_run.proofs.run_samples.Given as goal
 
 abbrev pub invariant-loop-k : goal.invariant-loop-k
 invariant-loop-k l =
-    (l.k ≤ l.n) × (length l.image ≡ length l.initial.image) × (sound_of l.d ≡ true)
-    × Simulates l.stream 0 (world l.initial.d l.initial.image) l.initial.answers l.k (world l.d l.image) l.answers
+    record {
+      within : l.k ≤ l.n;
+      simulates : Simulates l.stream 0 (world l.initial.d.0 l.initial.image) l.initial.answers l.k (world l.d.0 l.image) l.answers;
+    }
 
 abbrev pub decreases-loop-k : goal.decreases-loop-k
 decreases-loop-k l = l.n - l.k

@@ -4,7 +4,7 @@ use Rattle.fast_run.proofs.stretch_clock.Goals as goal
 
 pub returns : goal.returns
 returns c =
-    let t = rw c.sample_at.ensures at c.clock_device-a.ensures in
+    let t = rw c.sample_at.ensures at c.clock_device-t.ensures in
     record {
       further = omega arith;
       within = omega arith;

@@ -11,8 +11,10 @@ unfolding driven_of
 loop-i-preserved c =
     let a = c.args in
     let i = c.loop-i.i in
-    let e = at (λ (j : ℕ). driven_of (frame 1 (j + 1) a.byte 0)) 18 i 0 (omega arith) in (
-      omega arith,
-      simp length-set (omega arith),
-      rw (c.loop-i.invariant.2, c.drive.ensures, ← e, add-one i) (paste-suc a.answers.now a.from (read_answers a.byte) i 0 (omega arith) (omega arith)),
-    )
+    let e = at (λ (j : ℕ). driven_of (frame 1 (j + 1) a.byte 0)) 18 i 0 (omega arith) in
+    record {
+      size = simp length-set (omega arith);
+      given =
+          rw (c.loop-i.invariant.given, c.drive.ensures, ← e, add-one i)
+          (paste-suc a.answers.now a.from (read_answers a.byte) i 0 (omega arith) (omega arith));
+    }

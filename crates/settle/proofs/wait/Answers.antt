@@ -5,11 +5,11 @@ use Rattle.soundness.proofs.Clauses.{parts}
 use Rattle.settle.proofs.Idle.{waits}
 use Rattle.settle.proofs.wait.Goals as goal
 
-pub forward-p-requires-clause-c_value : goal.forward-p-requires-clause-c_value
-forward-p-requires-clause-c_value c = (parts c.loop-count.d c.loop-count.invariant.2).controller
+pub invariant_of-controller : goal.invariant_of-controller
+invariant_of-controller c = record { sound = (parts c.loop-count.d c.loop-count.invariant.0).controller }
 
 pub returns-then-d-eq0 : goal.returns-then-d-eq0
 returns-then-d-eq0 c =
     let w = c.loop-count in
-    let r = waits _ c.requires.sample_value (c.args.limit - w.count) w.count w.d w.image _ _ _ (parts w.d w.invariant.2).controller (eq-eqb w.d.frame.kind 0 (omega arith)) c.forward-p.ensures in
-    rw (c.is_ready-then-d-eq0.ensures, c.with_controller-last.ensures) r ∙ w.invariant.3
+    waits _ c.requires (c.args.limit - w.count) w.count w.d w.image _ _ _ (parts w.d w.invariant.0).controller (eq-eqb w.d.frame.kind 0 (omega arith)) c.forward-p.ensures
+    ∙ w.invariant.1

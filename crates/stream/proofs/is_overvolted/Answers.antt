@@ -1,14 +1,14 @@
-use Rattle.std.proofs.Common.{◌∙◌, sym, arith}
-use Rattle.record.proofs.Samples.{samples_end}
-use Rattle.stream.proofs.Turns.{over_turn, over_end}
+use Rattle.std.proofs.Common.{◌∙◌, ◌/◌, ◌||◌, Bool, ℕ, false, refl, length, arith, rules, tests}
+use lib.Dec.{eqb}
+use Rattle.std.proofs.lemmas.Iterator.{YieldsList-from_range}
+use Rattle.std.proofs.lemmas.Iterator.Consumers.{fold_from_yields_List}
+use Rattle.record.specs.Sample.{voltage, sample_at}
+use Rattle.stream.proofs.Turns.{over_fold}
 use Rattle.stream.proofs.is_overvolted.Goals as goal
 
-pub loop-k-preserved : goal.loop-k-preserved
-loop-k-preserved c = (
-  omega arith,
-  rw (c.either-over.ensures, c.voltage.ensures, c.sample_at.ensures)
-      (over_turn c.args.stream.now c.loop-k.k c.loop-k.over (omega arith)) ∙ c.loop-k.invariant.1,
-)
-
 pub returns : goal.returns
-returns c = sym (over_end c.loop-k.over) ∙ rw (samples_end c.args.stream.now c.loop-k.k (omega arith)) at c.loop-k.invariant.1
+returns c =
+    fold_from_yields_List _ (λ (over : Bool) (k : ℕ). over || eqb (voltage (sample_at c.args.stream.now k)) 3) false _ c.fold.ensures.ran
+    (YieldsList-from_range 0 (length c.args.stream.now / 2) (length c.args.stream.now / 2) refl (omega arith))
+    (λ all k r f e. search (rules, tests))
+    ∙ over_fold c.args.stream.now 0 (length c.args.stream.now / 2) false (omega arith) (omega arith)

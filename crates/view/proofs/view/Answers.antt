@@ -1,17 +1,10 @@
--- `view::view`: the test of the arguments tells that both parts are there, and the read lock chooses. Assumes nothing.
-use Rattle.std.proofs.Common.{arith, sym}
-use Rattle.std.proofs.Math.Seq.{length-take-le}
-use Rattle.std.proofs.Math.Nat.{add-sub_cancel_left}
-use Rattle.view.proofs.Ready.{told}
-use Rattle.view.specs.Shown.{shown}
+-- The part of the image that the block is.
+use Rattle.std.proofs.Common.{sym}
+use native.Mathlib.Nat.{add-sub_cancel_left}
+use Rattle.view.proofs.Laws.{shown_open}
 use Rattle.view.proofs.view.Goals as goal
 
-pub slice_bounds-result-end : goal.slice_bounds-result-end
-slice_bounds-result-end c =
-    let g = told _ _ _ _ _ c.can_show.ensures c.if-can_show.true in
-    sym (length-take-le 65536 c.args.page.now (omega arith))
-
-pub returns-then-can_show : goal.returns-then-can_show
-unfolding shown
-returns-then-can_show c =
-    rw (add-sub_cancel_left, ← c.can_show.ensures, c.if-can_show.true, ← c.read_locked.ensures, c.if-read_locked.false)
+pub returns-in-Block : goal.returns-in-Block
+returns-in-Block c =
+    let e = c.in-Block.ensures in
+    rw (e.0, add-sub_cancel_left) (sym (shown_open c.args.device c.args.image.now c.args.page.now c.args.block e.1 e.2))
