@@ -11,10 +11,10 @@ use record::{Chip, Frame, Nibble, frame_line, idle_frame, lines};
 
 // The frame line is low: a new frame, or none.
 #[tactic(auto, using(basics::proofs::Rules::cases), unfolding(crate::specs::Frames::begun))]
-fn begin(part: u8, lines: Nibble) -> Frame
+fn begin(part: u8, lines: u8) -> Frame
     ensures { result ≡ begun part lines }
 {
-    let kind = match (part, lines.value()) {
+    let kind = match (part, lines) {
         (Lpc::NUMBER, 0) => 3,
         (Lpc::NUMBER, _) => return idle_frame(),
         (_, 13) => 1,
@@ -71,11 +71,11 @@ fn head(straps: u8, f: Frame, lines: Nibble) -> Frame
 
 // The cycle type, from which on the direction of an LPC frame is known.
 #[tactic(auto, using(basics::proofs::Rules::cases), unfolding(crate::specs::Frames::cycled))]
-fn cycle(f: Frame, lines: Nibble) -> Frame
+fn cycle(f: Frame, lines: u8) -> Frame
     requires { f.clock < 10 }
     ensures { result ≡ cycled f lines }
 {
-    let kind = match lines.value() / 2 {
+    let kind = match lines / 2 {
         2 => 1,
         3 => 2,
         _ => return idle_frame(),
@@ -126,7 +126,7 @@ fn head_lpc(straps: u8, f: Frame, lines: Nibble) -> Frame
     ensures { result ≡ headed_lpc straps f lines }
 {
     if f.kind == 3 {
-        return cycle(f, lines);
+        return cycle(f, lines.value());
     }
     address_on(straps, f, shift(Lpc::NUMBER, f.address, lines))
 }
@@ -187,7 +187,7 @@ pub fn clock_frame(chip: Chip, f: Frame, sample: u16) -> Frame
     ensures { result ≡ frame_clock chip.part chip.straps f sample }
 {
     if frame_line(sample) == 0 {
-        return begin(chip.part, lines(sample));
+        return begin(chip.part, lines(sample).value());
     }
     if f.kind == 0 {
         return f;

@@ -1,7 +1,8 @@
 // One clock, in order: reset, or the controller with its effect on the image and then the bus.
 #![tactic(auto)]
 
-ghost use Rattle.std.specs.Prelude.{◌≡◌};
+ghost use Rattle.std.specs.Prelude.{◌≡◌, true};
+ghost use Rattle.soundness.specs.Sound.{controller_fits};
 ghost use Rattle.clock.specs.Clock.{reset_device, is_cut, served_of, device_clock, image_after};
 ghost use Rattle.clock.specs.Eventless.{is_eventless};
 
@@ -32,36 +33,37 @@ pub struct DeviceClocked {
     pub happened: Happened,
 }
 
-#[tactic(auto, using(soundness::proofs::Clauses::controller_sound), unfolding(crate::specs::Clock::reset_device))]
-fn reset_device(d: Sound<Device>) -> Device
-    ensures { result ≡ reset_device d.value }
+#[tactic(auto, unfolding(crate::specs::Clock::reset_device))]
+fn reset_device(d: Device) -> Device
+    requires { controller_fits d.controller ≡ true }
+    ensures { result ≡ reset_device d }
 {
-    let old = d.value;
     let controller = Sound {
-        value: old.controller,
+        value: d.controller,
     };
     Device {
         locks: [1; 16],
         frame: idle_frame(),
         controller: reset(controller),
-        ..old
+        ..d
     }
 }
 
-// The bus, which sees device and image as the controller left them on this clock.
+// The bus, which sees device and image as the controller left them on this clock. The next device is made where it is known what is
+// asked: made before, it would lie in memory and be copied on each clock of a frame.
 #[tactic(auto, unfolding(crate::specs::Clock::served_of))]
 fn serve(d: Device, image: &Image, sample: u16) -> Judged<Device>
     ensures { result ≡ served_of d image.now sample }
 {
     let frame = clock_frame(d.chip(), d.frame, sample);
-    let next = Device { frame, ..d };
     match ask(frame) {
         Asked::Nothing => Judged {
-            after: next,
+            after: Device { frame, ..d },
             verdict: None,
         },
         Asked::Read(address) => {
             let at = array_address(address) as usize;
+            let next = Device { frame, ..d };
             let byte = value(next, sample, address, image[at]);
             let fixed = Frame { byte, ..frame };
             Judged {
@@ -69,7 +71,7 @@ fn serve(d: Device, image: &Image, sample: u16) -> Judged<Device>
                 verdict: None,
             }
         }
-        Asked::Write(address, byte) => reach(next, sample, address, byte),
+        Asked::Write(address, byte) => reach(Device { frame, ..d }, sample, address, byte),
     }
 }
 
@@ -96,7 +98,7 @@ pub fn clock_device(d: Sound<Device>, image: &mut Image, sample: u16) -> DeviceC
     };
     if is_reset(sample) {
         return DeviceClocked {
-            device: reset_device(d),
+            device: reset_device(old),
             answer: 0,
             happened: Happened {
                 cut: old.controller.outer.kind != 0,

@@ -1,11 +1,13 @@
 -- Which number a settle gives before it begins, from what its tests found, and what the settle gives where it is 0 and
 -- otherwise. Assumes nothing.
-use mathlib.Core.Path.{◌≡◌}
+use mathlib.Core.Path.{◌≡◌, ◌∙◌, sym, refl}
 use mathlib.Core.Bool.{Bool, true, false}
 use mathlib.Core.List.{List}
 use Prim.Native.Nat.{ℕ}
+use lib.Dec.{eqb}
 use lib.ListN.{length}
-use borrow.Author.Tests.{eq-eqb, ne_eqb}
+use borrow.Author.Tests.{eq-eqb, ne_eqb, eqb-true, eqb-false}
+use Rattle.basics.proofs.Rules.{ask, yes, no}
 use Rattle.record.specs.declared.Device.{Device}
 use Rattle.record.specs.Sample.{voltage, is_idle_sample}
 use Rattle.soundness.specs.Sound.{sound_of}
@@ -37,6 +39,25 @@ module _ (d : Device) (image : List ℕ) (sample : ℕ) where
         accepted i = rw (e, eq-eqb (length image) 1048576 l, ne_eqb (voltage sample) 3 v, i)
 
 module _ (d : Device) (image : List ℕ) (sample : ℕ) {number : ℕ} (e : number ≡ settle_number d image sample) where
+  -- and back: what all the tests have found where the number is 0
+  pub accepts : number ≡ 0 → (sound_of d ≡ true) × ((length image ≡ 1048576) × (is_idle_sample sample ≡ true))
+  unfolding settle_number
+  accepts n =
+      let z = sym e ∙ n in
+      elim (ask (sound_of d)) [
+        | yes s ↦ elim (ask (eqb (length image) 1048576)) [
+          | yes l ↦ elim (ask (eqb (voltage sample) 3)) [
+            | yes v ↦ absurd (eqb-false 7 0 refl (rw (s, l, v) at z))
+            | no v ↦ elim (ask (is_idle_sample sample)) [
+              | yes r ↦ (s, (eqb-true (length image) 1048576 l, r))
+              | no r ↦ absurd (eqb-false 9 0 refl (rw (s, l, v, r) at z))
+            ]
+          ]
+          | no l ↦ absurd (eqb-false 2 0 refl (rw (s, l) at z))
+        ]
+        | no s ↦ absurd (eqb-false 1 0 refl (rw s at z))
+      ]
+
   module _ (limit : ℕ) where
     pub finishes : {count : ℕ} {ready : Bool} {last : Device} {late : List ℕ}
         → number ≡ 0

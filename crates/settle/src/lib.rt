@@ -23,7 +23,8 @@ pub struct Settled {
     pub device: Device,
 }
 
-// Whether status bit 7 is 1.
+// Whether status bit 7 is 1. Not inlined: the device stays whole in `wait`, and is not taken apart and put together on each clock.
+#[inline(never)]
 #[tactic(auto, unfolding(crate::specs::Settle::is_ready))]
 fn is_ready(d: Device) -> bool
     ensures { result ≡ is_ready d }

@@ -1,6 +1,6 @@
 // A value that is known to be sound: `new` tested it, or a law shows it where it is made. It is not tested again.
 
-ghost use Rattle.std.specs.Prelude.{◌≡◌, ◌↔◌, Bool, true, IsSome, IfSome};
+ghost use Rattle.std.specs.Prelude.{◌≡◌, ◌↔◌, Bool, true, ⊤, IsSome, IfSome};
 
 use crate::{all_below, frame_fits, inner_fits, left_fits, outer_fits, setup_kinds, state_fits};
 use part::{Part, strap_count};
@@ -22,6 +22,10 @@ pub struct Sound<T: Soundness> {
 
 // By hand: neither this nor Copy is derived beside a ghost field that names a bound's member.
 impl<T: Soundness + Copy> Clone for Sound<T> {
+    ghost is_clone = { λ s r. r ≡ s };
+
+    ghost is_infallible = { λ _. ⊤ };
+
     fn clone(&self) -> Result<Sound<T>, AllocError> {
         Ok(*self)
     }

@@ -1,3 +1,4 @@
 pub mod Turns
 pub mod Doors
+pub mod Accepted
 pub mod Laws
